@@ -1,0 +1,16 @@
+-- Any two results that meet a public function's contract are the same: one theorem a function, over the contract itself.
+-- Assumes nothing.
+use mathlib.Core.Path.{_≡_, sym, _∙_}
+use denote.Ref.{now}
+use Rattle.wire.proofs.byte_at.Reads as byte-at
+use Rattle.wire.proofs.number_at.Reads as number-at
+use Rattle.wire.proofs.part.Reads as part
+
+pub byte-at-same : (κs : _) (a : _) (r r′ : _) (e e′ : _) → byte-at.Learnt κs a r e → byte-at.Learnt κs a r′ e′ → r ≡ r′
+byte-at-same κs a r r′ e e′ p q = p ∙ sym q
+
+pub number-at-same : (κs : _) (a : _) (r r′ : _) (e e′ : _) → number-at.Learnt κs a r e → number-at.Learnt κs a r′ e′ → r ≡ r′
+number-at-same κs a r r′ e e′ p q = p ∙ sym q
+
+pub part-same : (κs : _) (a : _) (r r′ : _) (e e′ : _) → part.Learnt κs a r e → part.Learnt κs a r′ e′ → now r ≡ now r′
+part-same κs a r r′ e e′ p q = p ∙ sym q
