@@ -3,7 +3,7 @@
 use mathlib.Core.Path.{_≡_, refl, sym, ap, _∙_}
 use mathlib.Core.List.{List, []}
 use Prim.Native.Nat.{ℕ, _+_, _-_, _*_, _<_, _≤_}
-use native.Mathlib.Nat.{add-sub-cancel-left}
+use native.Mathlib.Nat.{add-sub-cancel-left, sub-self}
 use native.Mathlib.Omega.{arith}
 use borrow.Author.Tests.{le-leb, lt-leb}
 use lib.ListN.{length, getD, take, drop, List·getD-eq-default}
@@ -23,9 +23,10 @@ pub number-drop : (s : List ℕ) (at i : ℕ) → numberAt (drop at s) i ≡ num
 unfolding numberAt
 number-drop s at i = rw (getD-drop, getD-drop) (ap (λ (n : ℕ). getD s (at + i) 0 * 256 + getD s n 0) (omega arith))
 
-pub part-none : (s : List ℕ) (start n : ℕ) → length s < start + n → take 0 (drop 0 s) ≡ partAt s start n
+-- no bytes from any place are what a part that is not inside is
+pub part-none : (s : List ℕ) (i start n : ℕ) → length s < start + n → take (i - i) (drop i s) ≡ partAt s start n
 unfolding partAt
-part-none s start n h = rw (lt-leb (start + n) (length s) h)
+part-none s i start n h = rw (lt-leb (start + n) (length s) h, sub-self)
 
 pub part-some : (s : List ℕ) (start n : ℕ) → start + n ≤ length s → take (start + n - start) (drop start s) ≡ partAt s start n
 unfolding partAt

@@ -27,7 +27,7 @@ pub fn part(s: &[u8], start: usize, len: usize) -> &[u8]
         return &s[0..0];
     }
     if s.len() - start < len {
-        return &s[0..0];
+        return &s[start..start];
     }
     let end = start + len;
     &s[start..end]

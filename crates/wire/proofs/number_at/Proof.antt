@@ -5,44 +5,32 @@ use Rattle.wire.specs.Bytes.{numberAt}
 use Rattle.wire.proofs.Bytes.{number-past}
 use Rattle.wire.proofs.number_at.Statement.{statement}
 use Rattle.wire.proofs.number_at.Tie as tie
-use Rattle.wire.proofs.number_at.Reads as reads
-use Rattle.wire.proofs.number_at.Lts as lts
-use Rattle.wire.proofs.byte_at.Reads as byte-at-reads
 
--- src/lib.rt:17:17
 byte-at-requires : tie.Need-byte-at-requires
 byte-at-requires c κs = search needs
 
--- src/lib.rt:17:17
 cast-result : tie.Need-cast-result
 cast-result c = search needs
 
--- src/lib.rt:17:16
 mul-result : tie.Need-mul-result
 mul-result c = search needs
 
--- src/lib.rt:17:59
 add-byte-at : tie.Need-add-byte-at
 add-byte-at c = search needs
 
--- src/lib.rt:17:48
 byte-at-requires-2 : tie.Need-byte-at-requires-2
 byte-at-requires-2 c κs = search needs
 
--- src/lib.rt:17:48
 cast-result-2 : tie.Need-cast-result-2
 cast-result-2 c = search needs
 
--- src/lib.rt:17:16
 add-result : tie.Need-add-result
 add-result c = search needs
 
--- src/lib.rt:17:9
 returns : tie.Need-returns
 unfolding numberAt
 returns c = cc
 
--- src/lib.rt:13:1
 returns-2 : tie.Need-returns-2
 returns-2 c = number-past _ _ (c .if1 .left)
 

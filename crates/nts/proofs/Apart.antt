@@ -1,0 +1,90 @@
+-- What is told of an answer tells any two answers apart: it can be turned back into the answer.
+-- Assumes nothing.
+use mathlib.Core.Path.{_≡_, refl, sym, ap, _∙_}
+use mathlib.Core.Bool.{cond}
+use Prim.Native.Nat.{ℕ}
+use lib.Dec.{eqb}
+use Rattle.nts.specs.Algorithm.{Described, known, unknown, toldDescription}
+use Rattle.nts.specs.Refusal.{numberOf, Beside, nothing, code, besideOf, toldCode, Refused, toldRefusal}
+use Rattle.nts.specs.declared.NtsError.{NtsError}
+use Rattle.nts.specs.declared.NtsError.the-variants.{UnexpectedEof, InvalidData, UnrecognizedCriticalRecord, Invalid, AeadNotSupported, IncorrectSizedKey, TableFull, InvalidInput, InvalidValue, OutputTooShort, Error, UnknownWarning, NoOverlappingProtocol, NoOverlappingAlgorithm, NoCookie}
+use Rattle.nts.specs.declared.Code.{Code}
+use Rattle.nts.specs.declared.Code.the-variants.{None, Number}
+use Rattle.nts.specs.declared.Description.{Description}
+use Rattle.nts.specs.declared.Description.the-variants.{Known, Unknown}
+use Rattle.nts.specs.declared.Refusal.{Refusal}
+
+-- two values are the same where what is told of them is, and that can be turned back
+pub apart : {A T : Type 0} (told : A → T) (back : T → A) → ((x : A) → back (told x) ≡ x) → (x y : A) → told x ≡ told y → x ≡ y
+apart told back same x y e = sym (same x) ∙ ap back e ∙ same y
+
+number-in : Beside → ℕ
+number-in nothing = 0
+number-in (code n) = n
+
+error-from : Refused → NtsError
+error-from r =
+    cond (eqb (r .number) 1) UnexpectedEof
+    (cond (eqb (r .number) 2) InvalidData
+    (cond (eqb (r .number) 3) UnrecognizedCriticalRecord
+    (cond (eqb (r .number) 4) Invalid
+    (cond (eqb (r .number) 5) (AeadNotSupported (record { 0 = number-in (r .beside) }))
+    (cond (eqb (r .number) 6) IncorrectSizedKey
+    (cond (eqb (r .number) 7) TableFull
+    (cond (eqb (r .number) 8) InvalidInput
+    (cond (eqb (r .number) 9) InvalidValue
+    (cond (eqb (r .number) 10) OutputTooShort
+    (cond (eqb (r .number) 11) (Error (record { 0 = number-in (r .beside) }))
+    (cond (eqb (r .number) 12) (UnknownWarning (record { 0 = number-in (r .beside) }))
+    (cond (eqb (r .number) 13) NoOverlappingProtocol
+    (cond (eqb (r .number) 14) NoOverlappingAlgorithm
+    NoCookie)))))))))))))
+
+error-back : (e : NtsError) (p : ℕ) → error-from (record { number = numberOf e; beside = besideOf e; place = p }) ≡ e
+unfolding error-from number-in
+error-back UnexpectedEof p = refl
+error-back InvalidData p = refl
+error-back UnrecognizedCriticalRecord p = refl
+error-back Invalid p = refl
+error-back (AeadNotSupported c) p = refl
+error-back IncorrectSizedKey p = refl
+error-back TableFull p = refl
+error-back InvalidInput p = refl
+error-back InvalidValue p = refl
+error-back OutputTooShort p = refl
+error-back (Error c) p = refl
+error-back (UnknownWarning c) p = refl
+error-back NoOverlappingProtocol p = refl
+error-back NoOverlappingAlgorithm p = refl
+error-back NoCookie p = refl
+
+refusal-from : Refused → Refusal
+refusal-from r = record { error = error-from r; place = r .place }
+
+pub refusal-apart : (x y : Refusal) → toldRefusal x ≡ toldRefusal y → x ≡ y
+unfolding refusal-from
+refusal-apart = apart toldRefusal refusal-from (λ x. ap (λ (e : NtsError). record { error = e; place = x .place }) (error-back (x .error) (x .place)))
+
+code-from : Beside → Code
+code-from nothing = None
+code-from (code n) = Number n
+
+code-back : (x : Code) → code-from (toldCode x) ≡ x
+unfolding code-from
+code-back None = refl
+code-back (Number n) = refl
+
+pub code-apart : (x y : Code) → toldCode x ≡ toldCode y → x ≡ y
+code-apart = apart toldCode code-from code-back
+
+description-from : Described → Description
+description-from unknown = Unknown
+description-from (known n k) = Known (record { id = record { 0 = n }; keysize = k })
+
+description-back : (x : Description) → description-from (toldDescription x) ≡ x
+unfolding description-from
+description-back Unknown = refl
+description-back (Known d) = refl
+
+pub description-apart : (x y : Description) → toldDescription x ≡ toldDescription y → x ≡ y
+description-apart = apart toldDescription description-from description-back
