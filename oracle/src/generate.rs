@@ -1,0 +1,37 @@
+//! Makes the corpora. Each is the same for the same seed.
+
+mod names;
+mod records;
+mod words;
+
+use std::io::{self, Write};
+
+use crate::samples;
+
+pub const UNKNOWN: u16 = 11;
+pub const CRITICAL: u16 = 0x8000;
+
+/// Writes the corpus of that name; an error where there is none.
+pub fn corpus(name: &str, seed: u64, count: Option<u64>, out: &mut impl Write) -> io::Result<bool> {
+    match name {
+        "sample" => samples::reading(out)?,
+        "cut" => records::cut_case(out)?,
+        "words" => words::every(seed, out)?,
+        "names" => names::boundaries(out)?,
+        "names3" => names::of_three(out)?,
+        "random" => records::random(seed, count.unwrap_or(300_000), out)?,
+        _ => return Err(io::Error::other(format!("no corpus is named {name}"))),
+    }
+    Ok(true)
+}
+
+/// The bytes of a record: type word, size and what is there of its body.
+pub fn record(word: u16, size: usize, there: &[u8]) -> Vec<u8> {
+    let size = u16::try_from(size).expect("a record's size");
+    [&word.to_be_bytes()[..], &size.to_be_bytes(), there].concat()
+}
+
+/// The payload of op R.
+pub fn placed(place: u64, bytes: &[u8]) -> Vec<u8> {
+    [&place.to_be_bytes()[..], bytes].concat()
+}

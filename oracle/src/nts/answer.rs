@@ -1,0 +1,33 @@
+//! Answers a corpus, one line a case.
+
+use std::io::{self, BufRead, Write};
+
+use super::{lines, reading};
+use crate::corpus::Cases;
+
+pub fn corpus(input: impl BufRead, out: &mut impl Write) -> io::Result<bool> {
+    let mut cases = Cases::new(io::BufReader::with_capacity(1 << 20, input));
+    let mut line = Vec::new();
+    while cases.advance()? {
+        line.clear();
+        if cases.too_long || answered(&mut line, cases.op, &cases.payload).is_none() {
+            line.clear();
+            lines::text(&mut line, "bad case");
+        }
+        line.push(b'\n');
+        out.write_all(&line)?;
+    }
+    Ok(true)
+}
+
+/// Writes the answer to a case; none where the op is unknown or the payload does not fit it.
+fn answered(line: &mut Vec<u8>, op: u8, payload: &[u8]) -> Option<()> {
+    match op {
+        b'r' => {
+            reading::at_start(line, payload);
+            Some(())
+        }
+        b'R' => reading::at_place(line, payload),
+        _ => None,
+    }
+}

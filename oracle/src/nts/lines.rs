@@ -1,0 +1,50 @@
+//! The pieces of an answer's line.
+
+use std::io::Write;
+
+const DIGITS: &[u8; 16] = b"0123456789abcdef";
+
+/// `<..>`: bytes in hexadecimal.
+pub fn bytes(line: &mut Vec<u8>, bytes: &[u8]) {
+    line.reserve(2 * bytes.len() + 2);
+    line.push(b'<');
+    for byte in bytes {
+        line.push(DIGITS[usize::from(byte >> 4)]);
+        line.push(DIGITS[usize::from(byte & 15)]);
+    }
+    line.push(b'>');
+}
+
+/// `[..]`: decimal numbers joined by commas.
+pub fn numbers(line: &mut Vec<u8>, numbers: impl Iterator<Item = u16>) {
+    line.push(b'[');
+    for (index, value) in numbers.enumerate() {
+        if index > 0 {
+            line.push(b',');
+        }
+        number(line, value);
+    }
+    line.push(b']');
+}
+
+/// A number in decimal.
+pub fn number(line: &mut Vec<u8>, number: impl Into<u64>) {
+    write!(line, "{}", number.into()).expect("memory takes every line");
+}
+
+pub fn text(line: &mut Vec<u8>, text: &str) {
+    line.extend_from_slice(text.as_bytes());
+}
+
+/// A refusal's number.
+pub fn refused(line: &mut Vec<u8>, refusal: u8) {
+    text(line, "refused ");
+    number(line, refusal);
+}
+
+/// A refusal's number and place.
+pub fn refused_at(line: &mut Vec<u8>, refusal: u8, place: u64) {
+    refused(line, refusal);
+    text(line, " at ");
+    number(line, place);
+}
