@@ -18,28 +18,28 @@ const DIFFER: &str = "differ";
 /// Added to the tally by oracle/compare where the probe fails.
 const FAILED: &str = "failed";
 
-/// The outcomes that can occur, told by the ops that they belong to.
-const READ: [&str; 18] = [
-    "0",
-    "1",
-    "2",
-    "3",
-    "4",
-    "5",
-    "6",
-    "7",
-    "8",
-    "9",
-    "10",
-    "12",
-    "13",
-    "14",
-    "unknown c",
-    "unknown -",
-    "refused 1",
-    "refused 2",
+/// The outcomes that can occur, by what the ops do.
+const FAMILIES: [(&str, &[&[&str]]); 3] = [
+    ("read", &[&KINDS, &["refused 1", "refused 2"]]),
+    ("write", &[&KINDS, &["a part", "refused 8", "refused 10"], &NO_RECORD]),
+    ("measure", &[&KINDS, &["refused 8", "refused 9"]]),
 ];
-const FAMILIES: [(&str, &[&str]); 1] = [("read", &READ)];
+const KINDS: [&str; 16] =
+    ["0", "1", "2", "3", "4", "5", "6", "7", "8", "9", "10", "12", "13", "14", "unknown c", "unknown -"];
+/// Refusal 9 of a writer, by what it was to write.
+const NO_RECORD: [&str; 11] = [
+    "refused 9 for 1",
+    "refused 9 for 4",
+    "refused 9 for 6",
+    "refused 9 for 9",
+    "refused 9 for 10",
+    "refused 9 for 12",
+    "refused 9 for 13",
+    "refused 9 for 14",
+    "refused 9 for unknown c",
+    "refused 9 for unknown -",
+    "refused 9 for a part",
+];
 
 fn open(path: &str) -> io::Result<BufReader<File>> {
     let file = File::open(path).map_err(|error| io::Error::other(format!("{path}: {error}")))?;
@@ -131,14 +131,32 @@ fn count(counts: &mut BTreeMap<String, u64>, op: u8, payload: &[u8], line: &[u8]
 }
 
 /// The outcome that the crate's line tells.
-fn outcome(op: u8, _payload: &[u8], line: &[u8]) -> String {
+fn outcome(op: u8, payload: &[u8], line: &[u8]) -> String {
     let line = String::from_utf8_lossy(&line[..line.len().min(64)]);
     let words: Vec<&str> = line.splitn(7, ' ').collect();
     match (op, &words[..]) {
         (b'r' | b'R', ["ok", "next", _, "unknown", _, bit, ..]) => format!("read unknown {bit}"),
         (b'r' | b'R', ["ok", "next", _, kind, ..]) => format!("read {kind}"),
         (b'r' | b'R', ["refused", number, ..]) => format!("read refused {number}"),
+        (b'w' | b'W' | b'X', ["wrote", ..]) => format!("write {}", to_write(op, payload)),
+        (b'w' | b'W' | b'X', ["refused", "9"]) => format!("write refused 9 for {}", to_write(op, payload)),
+        (b'w' | b'W' | b'X', ["refused", number]) => format!("write refused {number}"),
+        (b'z', ["length", ..]) => format!("measure {}", to_write(op, payload)),
+        (b'z', ["refused", number]) => format!("measure refused {number}"),
         _ => line.into_owned(),
+    }
+}
+
+/// What a case of writing is to write. Each part of op X is a cookie, if it is inside.
+fn to_write(op: u8, payload: &[u8]) -> String {
+    match (op, payload) {
+        (b'X', _) => "a part".to_owned(),
+        (b'W', [_, _, _, _, record @ ..]) | (_, record) => match record {
+            [11, _, _, 0, ..] => "unknown -".to_owned(),
+            [11, ..] => "unknown c".to_owned(),
+            [kind, ..] => kind.to_string(),
+            [] => String::new(),
+        },
     }
 }
 
@@ -158,7 +176,7 @@ pub fn total(tally: &str, judged: bool, out: &mut impl Write) -> io::Result<bool
         if !counts.keys().any(|key| key.starts_with(&prefix)) {
             continue;
         }
-        for outcome in outcomes {
+        for outcome in outcomes.iter().copied().flatten() {
             let number = counts.remove(&format!("{prefix}{outcome}")).unwrap_or_default();
             let few = judged && number < LEAST;
             good &= !few;

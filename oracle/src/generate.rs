@@ -3,6 +3,7 @@
 mod names;
 mod records;
 mod words;
+mod writes;
 
 use std::io::{self, Write};
 
@@ -11,15 +12,22 @@ use crate::samples;
 pub const UNKNOWN: u16 = 11;
 pub const CRITICAL: u16 = 0x8000;
 
+/// Whether a number is that of a kind that document 01 names.
+pub fn is_known(kind: u16) -> bool {
+    kind <= 14 && kind != UNKNOWN
+}
+
 /// Writes the corpus of that name; an error where there is none.
 pub fn corpus(name: &str, seed: u64, count: Option<u64>, out: &mut impl Write) -> io::Result<bool> {
     match name {
         "sample" => samples::reading(out)?,
         "cut" => records::cut_case(out)?,
+        "sample-writing" => samples::writing(out)?,
         "words" => words::every(seed, out)?,
         "names" => names::boundaries(out)?,
         "names3" => names::of_three(out)?,
         "random" => records::random(seed, count.unwrap_or(300_000), out)?,
+        "writes" => writes::writes(seed, count.unwrap_or(200_000), out)?,
         _ => return Err(io::Error::other(format!("no corpus is named {name}"))),
     }
     Ok(true)

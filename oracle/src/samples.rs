@@ -1,8 +1,10 @@
 //! The stored sample: few and short cases, chosen so that each line of document 01 has its own.
 
 mod reading;
+mod writing;
 
 pub use reading::reading;
+pub use writing::writing;
 
 /// Bytes from hexadecimal digits; blanks count for nothing.
 pub fn hex(text: &str) -> Vec<u8> {

@@ -15,24 +15,36 @@ const FOLLOWERS: [u8; 8] = [0x7f, 0x80, 0x8f, 0x90, 0x9f, 0xa0, 0xbf, 0xc0];
 /// Every body of one and two bytes, and those of three and four bytes around the table's boundaries, whole and cut.
 pub fn boundaries(out: &mut impl Write) -> io::Result<()> {
     let mut turn = 0;
+    pairs_of_bytes(&mut |body| short(out, &mut turn, body))?;
+    around(&mut |body| long(out, &mut turn, body))?;
+    // The last case ends inside its length.
+    out.write_all(b"r\x00\x00\x00")
+}
+
+/// Every body of one and two bytes.
+pub fn pairs_of_bytes(each: &mut impl FnMut(&[u8]) -> io::Result<()>) -> io::Result<()> {
     for first in 0..=u8::MAX {
-        short(out, &mut turn, &[first])?;
+        each(&[first])?;
         for second in 0..=u8::MAX {
-            short(out, &mut turn, &[first, second])?;
+            each(&[first, second])?;
         }
     }
+    Ok(())
+}
+
+/// Bodies of three and four bytes around the table's boundaries.
+pub fn around(each: &mut impl FnMut(&[u8]) -> io::Result<()>) -> io::Result<()> {
     for first in LEADS {
         for second in FOLLOWERS {
             for third in FOLLOWERS {
-                long(out, &mut turn, &[first, second, third])?;
+                each(&[first, second, third])?;
                 for fourth in FOLLOWERS {
-                    long(out, &mut turn, &[first, second, third, fourth])?;
+                    each(&[first, second, third, fourth])?;
                 }
             }
         }
     }
-    // The last case ends inside its length.
-    out.write_all(b"r\x00\x00\x00")
+    Ok(())
 }
 
 /// Every body of three bytes.

@@ -2,7 +2,7 @@
 
 use std::io::{self, BufRead, Write};
 
-use super::{lines, reading};
+use super::{lines, reading, writing};
 use crate::corpus::Cases;
 
 pub fn corpus(input: impl BufRead, out: &mut impl Write) -> io::Result<bool> {
@@ -28,6 +28,10 @@ fn answered(line: &mut Vec<u8>, op: u8, payload: &[u8]) -> Option<()> {
             Some(())
         }
         b'R' => reading::at_place(line, payload),
+        b'w' => writing::written(line, payload),
+        b'W' => writing::written_into(line, payload),
+        b'X' => writing::written_part(line, payload),
+        b'z' => writing::measured(line, payload),
         _ => None,
     }
 }
