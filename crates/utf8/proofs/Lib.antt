@@ -1,0 +1,4 @@
+pub mod Below
+pub mod Rows
+pub mod Run
+pub mod Same

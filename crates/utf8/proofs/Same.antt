@@ -1,0 +1,7 @@
+-- Any two results that meet a public function's contract are the same: one theorem a function, over the contract itself.
+-- Assumes nothing.
+use mathlib.Core.Path.{_≡_, sym, _∙_}
+use Rattle.utf8.proofs.is_utf8.Reads as is-utf8
+
+pub is-utf8-same : (κs : _) (a : _) (r r′ : _) (e e′ : _) → is-utf8.Learnt κs a r e → is-utf8.Learnt κs a r′ e′ → r ≡ r′
+is-utf8-same κs a r r′ e e′ p q = p ∙ sym q

@@ -1,0 +1,66 @@
+-- `utf8::is_utf8` meets its contract. The loop's invariant: the answer from the place reached is the whole answer. A turn
+-- passes one character and the ASCII bytes after it. The measure is what is left of the length.
+-- Assumes nothing.
+use borrow.Author.Needs.{needs}
+use mathlib.Core.Path.{_≡_, sym, _∙_}
+use Prim.Native.Nat.{_-_}
+use native.Mathlib.Omega.{arith}
+use lib.ListN.{length, drop}
+use Rattle.utf8.specs.Utf8.{wellFormed}
+use Rattle.utf8.proofs.Run.{at-end, at-none, at-some, at-inside}
+use Rattle.utf8.proofs.is_utf8.Statement.{statement}
+use Rattle.utf8.proofs.is_utf8.Tie as tie
+
+abbrev Inv-loop : tie.InvT-loop
+Inv-loop s at₀ at = wellFormed (drop at s) ≡ wellFormed s
+
+abbrev μ-loop : tie.MeasureT-loop
+μ-loop s at₀ at = length s - at
+
+after-ascii-requires : tie.Need-after-ascii-requires Inv-loop μ-loop
+after-ascii-requires c κs = search needs
+
+loop-holds : tie.Need-loop-holds Inv-loop μ-loop
+loop-holds c = c .after-ascii .ensures .same
+
+size-at-requires : tie.Need-size-at-requires Inv-loop μ-loop
+size-at-requires c κs = search needs
+
+returns : tie.Need-returns Inv-loop μ-loop
+returns c =
+    sym (at-none _ _ (c .before .before .loop-test .taken) (sym (c .before .size-at .ensures) ∙ c .if1 .taken))
+    ∙ c .before .before .before .loop .inv
+
+add-after-ascii : tie.Need-add-after-ascii Inv-loop μ-loop
+add-after-ascii c = omega (arith, at-inside _ _ (c .before .before .loop-test .taken) _ (c .before .size-at .ensures))
+
+after-ascii-requires-2 : tie.Need-after-ascii-requires-2 Inv-loop μ-loop
+after-ascii-requires-2 c κs = search needs
+
+loop-less : tie.Need-loop-less Inv-loop μ-loop
+loop-less c = search needs
+
+loop-again : tie.Need-loop-again Inv-loop μ-loop
+loop-again c =
+    c .after-ascii2 .ensures .same
+    ∙ at-some _ _ (c .before .before .before .loop-test .taken) _ (c .before .before .size-at .ensures) (c .before .if1 .left)
+    ∙ c .before .before .before .before .loop .inv
+
+returns-2 : tie.Need-returns-2 Inv-loop μ-loop
+returns-2 c = sym (at-end _ _ (c .loop-test .left)) ∙ c .before .loop .inv
+
+pub is-utf8-spec : {M : Type 1} → statement M
+is-utf8-spec =
+    tie.close
+    (tie.spec
+    Inv-loop
+    μ-loop
+    after-ascii-requires
+    loop-holds
+    size-at-requires
+    returns
+    add-after-ascii
+    after-ascii-requires-2
+    loop-less
+    loop-again
+    returns-2)
