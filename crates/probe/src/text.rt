@@ -1,0 +1,76 @@
+// Puts text behind what is to print. What the room cannot hold is dropped: the room is twice the longest line.
+use nts::Code;
+use nts::NtsError;
+use nts::Refusal;
+
+pub fn put(out: &mut [u8], at: usize, b: u8) -> usize {
+    if at < out.len() {
+        out[at] = b;
+        return at + 1;
+    }
+    at
+}
+
+pub fn put_text(out: &mut [u8], at: usize, text: &[u8]) -> usize {
+    let mut to = at;
+    let mut i = 0;
+    while i < text.len() {
+        to = put(out, to, text[i]);
+        i += 1;
+    }
+    to
+}
+
+pub fn put_decimal(out: &mut [u8], at: usize, n: u64) -> usize {
+    let mut digits = [0u8; 20];
+    let k = io::decimal(n, &mut digits);
+    put_text(out, at, &digits[..k])
+}
+
+fn glyph(d: u8) -> u8 {
+    if d < 10 {
+        return b'0' + d;
+    }
+    if d < 16 {
+        return b'a' - 10 + d;
+    }
+    b'?'
+}
+
+// The bytes in hexadecimal, between angle brackets.
+pub fn put_bytes(out: &mut [u8], at: usize, bytes: &[u8]) -> usize {
+    let mut to = put(out, at, b'<');
+    let mut i = 0;
+    while i < bytes.len() {
+        to = put(out, to, glyph(bytes[i] / 16));
+        to = put(out, to, glyph(bytes[i] % 16));
+        i += 1;
+    }
+    put(out, to, b'>')
+}
+
+pub fn bad_case(out: &mut [u8], at: usize) -> usize {
+    put_text(out, at, b"bad case")
+}
+
+// "refused N", and " code C" where a code is returned.
+pub fn put_refusal(out: &mut [u8], at: usize, error: NtsError) -> usize {
+    let word = put_text(out, at, b"refused ");
+    put_decimal(out, word, error.number() as u64)
+}
+
+// "refused N at P", and " code C" where a code is returned.
+pub fn put_refusal_at(out: &mut [u8], at: usize, refusal: Refusal) -> usize {
+    let error = refusal.error;
+    let number = put_refusal(out, at, error);
+    let word = put_text(out, number, b" at ");
+    let place = put_decimal(out, word, refusal.place as u64);
+    let code = error.code();
+    match code {
+        Code::None => place,
+        Code::Number(n) => {
+            let to = put_text(out, place, b" code ");
+            put_decimal(out, to, n as u64)
+        }
+    }
+}

@@ -1,0 +1,5 @@
+pub mod Mask
+pub mod Read
+pub mod Entry
+pub mod Apart
+pub mod Same

@@ -1,0 +1,51 @@
+-- What `readAt` is, from what the reader found on the way.
+-- Assumes nothing.
+use mathlib.Core.Path.{_≡_, refl, sym, ap, _∙_}
+use mathlib.Core.Bool.{Bool, true, false, cond}
+use mathlib.Core.List.{List}
+use Prim.Native.Nat.{ℕ, _+_, _-_, _<_, _≤_}
+use native.Mathlib.Nat.{add-sub-cancel-left}
+use native.Mathlib.Omega.{arith}
+use borrow.Author.Tests.{lt-ltb, le-ltb, eq-eqb, ne-eqb}
+use lib.ListN.{length, take, drop, length-drop}
+use lib.Seq.{take-all}
+use lib.Dec.{ltb, eqb}
+use Rattle.wire.specs.Bytes.{numberAt}
+use Rattle.nts.specs.Refusal.{nothing}
+use Rattle.record.specs.Record.{kindOf, criticalOf, kind, critical, size, there, shapeOf, faultOf, fault, Seen, seenOf, Told, read, refused, readFrom, readAt}
+use Rattle.record.specs.declared.Shape.{Shape}
+
+-- all that follows a header is what is there of a body that is short
+pub there-all : (s : List ℕ) (n : ℕ) → length s - 4 < n → take (length s - 4) (drop 4 s) ≡ take n (drop 4 s)
+there-all s n h =
+    take-all (length s - 4) (drop 4 s) (simp length-drop (omega arith)) ∙ sym (take-all n (drop 4 s) (simp length-drop (omega arith)))
+
+pub there-some : (s : List ℕ) (n : ℕ) → take (4 + n - 4) (drop 4 s) ≡ take n (drop 4 s)
+there-some s n = rw add-sub-cancel-left
+
+-- what follows a place, as the reader takes it
+abbrev pub rest : List ℕ → ℕ → List ℕ
+rest s at = take (length s - at) (drop at s)
+
+pub from-rest : (s : List ℕ) (at : ℕ) → readFrom at (rest s at) ≡ readAt s at
+unfolding readAt
+from-rest s at = ap (readFrom at) (take-all (length s - at) (drop at s) (simp length-drop (omega arith)))
+
+-- past a message's end nothing is there
+pub past-end : (s : List ℕ) (at : ℕ) → length s < at → refused (record { number = 1; beside = nothing; place = at }) ≡ readAt s at
+unfolding readAt readFrom fault
+past-end s at h = simp (lt-ltb (length (drop at s)) 4 (simp length-drop (omega arith)))
+
+pub no-header : (at : ℕ) (t : List ℕ) → length t < 4 → refused (record { number = 1; beside = nothing; place = at }) ≡ readFrom at t
+unfolding readFrom fault
+no-header at t h = simp (lt-ltb _ _ h)
+
+module _ (at : ℕ) (t : List ℕ) (w n k : ℕ) (l : Shape) (b : List ℕ) (f : ℕ) (here : 4 ≤ length t) (ew : w ≡ numberAt t 0) (en : n ≡ numberAt t 2)
+    (ek : k ≡ kindOf w) (eb : b ≡ take n (drop 4 t)) (el : l ≡ shapeOf k) (ef : f ≡ faultOf l n b) where
+  pub faulty : (f ≡ 0 → ⊥) → refused (record { number = f; beside = nothing; place = at }) ≡ readFrom at t
+  unfolding readFrom fault kind size there
+  faulty z = simp (le-ltb _ _ here, sym ew, sym en, sym ek, sym el, sym eb, sym ef, ne-eqb _ _ z)
+
+  pub faultless : f ≡ 0 → (bit : Bool) (x : Seen) → bit ≡ criticalOf w → x ≡ seenOf k bit (at + 4) n b → read x (at + 4 + n) ≡ readFrom at t
+  unfolding readFrom fault kind critical size there
+  faultless z bit x e r = simp (le-ltb _ _ here, sym ew, sym en, sym ek, sym el, sym eb, sym ef, eq-eqb _ _ z, sym e, sym r)

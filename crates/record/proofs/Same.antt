@@ -1,0 +1,33 @@
+-- Any two results that meet a public function's contract are the same: one theorem a function, over the contract itself.
+-- Assumes nothing.
+use mathlib.Core.Path.{_≡_, sym, _∙_}
+use denote.Ref.{now}
+use Rattle.record.proofs.Apart.{cursor-apart, parsed-apart, protocol-apart, algorithm-apart, pair-apart}
+use Rattle.record.proofs.Part.of.Reads as of
+use Rattle.record.proofs.NtsRecord.parse.Reads as parse
+use Rattle.record.proofs.Cursor.new.Reads as new
+use Rattle.record.proofs.Cursor.read.Reads as read
+use Rattle.record.proofs.protocol_at.Reads as protocol-at
+use Rattle.record.proofs.algorithm_at.Reads as algorithm-at
+use Rattle.record.proofs.description_at.Reads as description-at
+
+pub Part-of-same : (κs : _) (a : _) (r r′ : _) (e e′ : _) → of.Learnt κs a r e → of.Learnt κs a r′ e′ → now r ≡ now r′
+Part-of-same κs a r r′ e e′ p q = p ∙ sym q
+
+pub NtsRecord-parse-same : (κs : _) (a : _) (r r′ : _) (e e′ : _) → parse.Learnt κs a r e → parse.Learnt κs a r′ e′ → r ≡ r′
+NtsRecord-parse-same κs a r r′ e e′ p q = parsed-apart r r′ (p ∙ sym q)
+
+pub Cursor-new-same : (κs : _) (a : _) (r r′ : _) (e e′ : _) → new.Learnt κs a r e → new.Learnt κs a r′ e′ → r ≡ r′
+Cursor-new-same κs a r r′ e e′ p q = cursor-apart r r′ (p ∙ sym q)
+
+pub Cursor-read-same : (κs : _) (a : _) (r r′ : _) (e e′ : _) → read.Learnt κs a r e → read.Learnt κs a r′ e′ → r ≡ r′
+Cursor-read-same κs a r r′ e e′ p q = parsed-apart r r′ (p ∙ sym q)
+
+pub protocol-at-same : (κs : _) (a : _) (r r′ : _) (e e′ : _) → protocol-at.Learnt κs a r e → protocol-at.Learnt κs a r′ e′ → r ≡ r′
+protocol-at-same κs a r r′ e e′ p q = protocol-apart r r′ (p ∙ sym q)
+
+pub algorithm-at-same : (κs : _) (a : _) (r r′ : _) (e e′ : _) → algorithm-at.Learnt κs a r e → algorithm-at.Learnt κs a r′ e′ → r ≡ r′
+algorithm-at-same κs a r r′ e e′ p q = algorithm-apart r r′ (p ∙ sym q)
+
+pub description-at-same : (κs : _) (a : _) (r r′ : _) (e e′ : _) → description-at.Learnt κs a r e → description-at.Learnt κs a r′ e′ → r ≡ r′
+description-at-same κs a r r′ e e′ p q = pair-apart r r′ (p ∙ sym q)

@@ -1,0 +1,395 @@
+// One record of the NTS key exchange: what it can be, and how it is read (the crate's src/nts/record.rs).
+use nts::AeadAlgorithm;
+use nts::AlgorithmDescription;
+use nts::ErrorCode;
+use nts::NextProtocol;
+use nts::NtsError;
+use nts::Refusal;
+use nts::WarningCode;
+ghost use mathlib.Core.Path.{_≡_};
+ghost use Prim.Native.Nat.{_+_, _/_, _<_, _≤_, _^_};
+ghost use lib.ListN.{length, take, drop};
+ghost use Rattle.wire.specs.Bytes.{partAt};
+ghost use Rattle.record.specs.Record.{kindOf, criticalOf, shapeOf, short, uneven, notNumber, notHalves, notName, faultOf, seenOf, readAt};
+ghost use Rattle.record.specs.Entry.{numberIn, pairIn};
+ghost use Rattle.record.specs.Told.{toldFault, toldRecord, toldParsed, toldProtocol, toldAlgorithm, toldPair};
+
+// Some bytes of a lent message: where they start in it, and how many there are.
+pub struct Part {
+    pub start: usize,
+    pub len: usize,
+}
+
+impl Part {
+    // The bytes themselves; none where the part is not inside the message.
+    pub fn of(self, message: &[u8]) -> &[u8]
+        ensures { λ r. ⌜ now r ≡ partAt (now (message .entry)) (self .start) (self .len) ⌝ }
+    {
+        wire::part(message, self.start, self.len)
+    }
+}
+
+// A record, as the crate's NtsRecord; bodies, names and keys are parts of the message that it was read from.
+pub enum NtsRecord {
+    EndOfMessage,
+    NextProtocol(Part),
+    Error(ErrorCode),
+    Warning(WarningCode),
+    AeadAlgorithm(Part),
+    NewCookie(Part),
+    Server(Part),
+    Port(u16),
+    KeepAlive,
+    SupportedNextProtocolList(Part),
+    SupportedAlgorithmList(Part),
+    FixedKeyRequest {
+        c2s: Part,
+        s2c: Part,
+    },
+    NtpServerDeny(Part),
+    Authentication(Part),
+    Unknown {
+        record_type: u16,
+        critical: bool,
+        data: Part,
+    },
+}
+
+// A place in a message, from which the next record is read.
+pub struct Cursor {
+    pub at: usize,
+}
+
+// A record that was read, with the place after it.
+pub struct Reading {
+    pub item: NtsRecord,
+    pub next: Cursor,
+}
+
+pub enum Parsed {
+    Read(Reading),
+    Refused(Refusal),
+}
+
+// What a body holds: 01's table, by kind.
+pub enum Shape {
+    Skipped,
+    Numbers,
+    Number,
+    Bytes,
+    Name,
+    Pairs,
+    Halves,
+    Unknown,
+}
+
+// What is wrong with a body.
+pub enum Fault {
+    None,
+    Short,
+    IllFormed,
+}
+
+// What stands at an index of a list.
+pub enum ProtocolAt {
+    Protocol(NextProtocol),
+    Nothing,
+}
+
+pub enum AlgorithmAt {
+    Algorithm(AeadAlgorithm),
+    Nothing,
+}
+
+pub enum DescriptionAt {
+    Description(AlgorithmDescription),
+    Nothing,
+}
+
+impl NtsRecord {
+    pub const END_OF_MESSAGE: u16 = 0;
+
+    pub const NEXT_PROTOCOL: u16 = 1;
+
+    pub const ERROR: u16 = 2;
+
+    pub const WARNING: u16 = 3;
+
+    pub const AEAD_ALGORITHM: u16 = 4;
+
+    pub const NEW_COOKIE: u16 = 5;
+
+    pub const SERVER: u16 = 6;
+
+    pub const PORT: u16 = 7;
+
+    pub const KEEP_ALIVE: u16 = 8;
+
+    pub const SUPPORTED_NEXT_PROTOCOL_LIST: u16 = 9;
+
+    pub const SUPPORTED_ALGORITHM_LIST: u16 = 10;
+
+    pub const FIXED_KEY_REQUEST: u16 = 12;
+
+    pub const NTP_SERVER_DENY: u16 = 13;
+
+    pub const AUTHENTICATION: u16 = 14;
+
+    // The type word's masks, and the header's length.
+    pub const CRITICAL_BIT: u16 = 0x8000;
+
+    pub const KIND_BITS: u16 = 0x7FFF;
+
+    pub const HEADER: usize = 4;
+
+    // The record at a place of a message, or its first fault at that place. A place past the end is 1 there.
+    pub fn parse(message: &[u8], at: usize) -> Parsed
+        ensures { λ r. ⌜ toldParsed r ≡ readAt (now (message .entry)) at ⌝ }
+    {
+        if message.len() < at {
+            return refused(NtsError::UnexpectedEof, at);
+        }
+        let rest = &message[at..];
+        if rest.len() < NtsRecord::HEADER {
+            return refused(NtsError::UnexpectedEof, at);
+        }
+        let word = wire::number_at(rest, 0);
+        let size = wire::number_at(rest, 2) as usize;
+        let kind = kind_of(word);
+        let body = there(rest, size);
+        let fault = fault_of(shape_of(kind), size, body);
+        match fault {
+            Fault::None => {
+                let start = at + NtsRecord::HEADER;
+                let item = record_of(kind, is_critical(word), start, size, body);
+                Parsed::Read(Reading {
+                    item,
+                    next: Cursor { at: start + size },
+                })
+            }
+            Fault::Short => refused(NtsError::UnexpectedEof, at),
+            Fault::IllFormed => refused(NtsError::InvalidData, at),
+        }
+    }
+}
+
+impl Cursor {
+    // The cursor at a message's first record.
+    pub fn new() -> Cursor
+        ensures { λ r. ⌜ r .at ≡ 0 ⌝ }
+    {
+        Cursor { at: 0 }
+    }
+
+    // The record at the cursor, with the cursor after it.
+    pub fn read(self, message: &[u8]) -> Parsed
+        ensures { λ r. ⌜ toldParsed r ≡ readAt (now (message .entry)) (self .at) ⌝ }
+    {
+        NtsRecord::parse(message, self.at)
+    }
+}
+
+fn refused(error: NtsError, place: usize) -> Parsed
+    ensures { λ r. ⌜ r ≡ Parsed.Refused (record { error = error; place = place }) ⌝ }
+{
+    Parsed::Refused(Refusal { error, place })
+}
+
+fn kind_of(word: u16) -> u16
+    ensures { λ r. ⌜ r ≡ kindOf word ⌝ }
+{
+    word & NtsRecord::KIND_BITS
+}
+
+fn is_critical(word: u16) -> bool
+    ensures { λ r. ⌜ r ≡ criticalOf word ⌝ }
+{
+    word & NtsRecord::CRITICAL_BIT != 0
+}
+
+// What is there of a body of this size, after the header.
+fn there(rest: &[u8], size: usize) -> &[u8]
+    requires { ⌜ 4 ≤ length (now rest) ⌝ }
+    ensures { λ r. ⌜ now r ≡ take size (drop 4 (now (rest .entry))) ⌝ }
+{
+    if rest.len() - NtsRecord::HEADER < size {
+        return &rest[NtsRecord::HEADER..];
+    }
+    let end = NtsRecord::HEADER + size;
+    &rest[NtsRecord::HEADER..end]
+}
+
+fn shape_of(kind: u16) -> Shape
+    ensures { λ r. ⌜ r ≡ shapeOf kind ⌝ }
+{
+    match kind {
+        NtsRecord::END_OF_MESSAGE => Shape::Skipped,
+        NtsRecord::NEXT_PROTOCOL => Shape::Numbers,
+        NtsRecord::ERROR => Shape::Number,
+        NtsRecord::WARNING => Shape::Number,
+        NtsRecord::AEAD_ALGORITHM => Shape::Numbers,
+        NtsRecord::NEW_COOKIE => Shape::Bytes,
+        NtsRecord::SERVER => Shape::Name,
+        NtsRecord::PORT => Shape::Number,
+        NtsRecord::KEEP_ALIVE => Shape::Skipped,
+        NtsRecord::SUPPORTED_NEXT_PROTOCOL_LIST => Shape::Numbers,
+        NtsRecord::SUPPORTED_ALGORITHM_LIST => Shape::Pairs,
+        NtsRecord::FIXED_KEY_REQUEST => Shape::Halves,
+        NtsRecord::NTP_SERVER_DENY => Shape::Name,
+        NtsRecord::AUTHENTICATION => Shape::Name,
+        _ => Shape::Unknown,
+    }
+}
+
+// The fault of a body that is to be `size` bytes long and of which `body` is there.
+fn fault_of(shape: Shape, size: usize, body: &[u8]) -> Fault
+    ensures { λ r. ⌜ toldFault r ≡ faultOf shape size (now (body .entry)) ⌝ }
+{
+    let there = body.len();
+    match shape {
+        Shape::Skipped => whole_fault(size, there),
+        Shape::Numbers => list_fault(2, size, there),
+        Shape::Number => number_fault(size, there),
+        Shape::Bytes => whole_fault(size, there),
+        Shape::Name => name_fault(size, body),
+        Shape::Pairs => list_fault(4, size, there),
+        Shape::Halves => halves_fault(size, there),
+        Shape::Unknown => whole_fault(size, there),
+    }
+}
+
+fn whole_fault(size: usize, there: usize) -> Fault
+    ensures { λ r. ⌜ toldFault r ≡ short size there ⌝ }
+{
+    if there < size {
+        return Fault::Short;
+    }
+    Fault::None
+}
+
+// A list of entries of `unit` bytes each.
+fn list_fault(unit: usize, size: usize, there: usize) -> Fault
+    requires { ⌜ 0 < unit ⌝ }
+    ensures { λ r. ⌜ toldFault r ≡ uneven unit size there ⌝ }
+{
+    if size % unit == 0 {
+        return whole_fault(size, there);
+    }
+    Fault::Short
+}
+
+// A third byte too many is ill-formed, even where it is missing.
+fn number_fault(size: usize, there: usize) -> Fault
+    ensures { λ r. ⌜ toldFault r ≡ notNumber size there ⌝ }
+{
+    if there < 2 {
+        return Fault::Short;
+    }
+    if size == 2 {
+        return Fault::None;
+    }
+    Fault::IllFormed
+}
+
+fn halves_fault(size: usize, there: usize) -> Fault
+    ensures { λ r. ⌜ toldFault r ≡ notHalves size there ⌝ }
+{
+    if there < 2 * (size / 2) {
+        return Fault::Short;
+    }
+    if size % 2 == 0 {
+        return Fault::None;
+    }
+    Fault::IllFormed
+}
+
+// What is there of a name is looked at first, and then whether all of it is there.
+fn name_fault(size: usize, body: &[u8]) -> Fault
+    ensures { λ r. ⌜ toldFault r ≡ notName size (now (body .entry)) ⌝ }
+{
+    if utf8::is_utf8(body) {
+        return whole_fault(size, body.len());
+    }
+    Fault::IllFormed
+}
+
+// The record of a kind whose body, `size` bytes from `start` on, has no fault.
+fn record_of(kind: u16, critical: bool, start: usize, size: usize, body: &[u8]) -> NtsRecord
+    requires { ⌜ start + size < 2 ^ 64 ⌝ }
+    ensures { λ r. ⌜ toldRecord r ≡ seenOf kind critical start size (now (body .entry)) ⌝ }
+{
+    let data = Part { start, len: size };
+    match kind {
+        NtsRecord::END_OF_MESSAGE => NtsRecord::EndOfMessage,
+        NtsRecord::NEXT_PROTOCOL => NtsRecord::NextProtocol(data),
+        NtsRecord::ERROR => NtsRecord::Error(ErrorCode(wire::number_at(body, 0))),
+        NtsRecord::WARNING => NtsRecord::Warning(WarningCode(wire::number_at(body, 0))),
+        NtsRecord::AEAD_ALGORITHM => NtsRecord::AeadAlgorithm(data),
+        NtsRecord::NEW_COOKIE => NtsRecord::NewCookie(data),
+        NtsRecord::SERVER => NtsRecord::Server(data),
+        NtsRecord::PORT => NtsRecord::Port(wire::number_at(body, 0)),
+        NtsRecord::KEEP_ALIVE => NtsRecord::KeepAlive,
+        NtsRecord::SUPPORTED_NEXT_PROTOCOL_LIST => NtsRecord::SupportedNextProtocolList(data),
+        NtsRecord::SUPPORTED_ALGORITHM_LIST => NtsRecord::SupportedAlgorithmList(data),
+        NtsRecord::FIXED_KEY_REQUEST => halves_of(start, size),
+        NtsRecord::NTP_SERVER_DENY => NtsRecord::NtpServerDeny(data),
+        NtsRecord::AUTHENTICATION => NtsRecord::Authentication(data),
+        _ => NtsRecord::Unknown {
+            record_type: kind,
+            critical,
+            data,
+        },
+    }
+}
+
+// A key record's two halves, client to server first.
+fn halves_of(start: usize, size: usize) -> NtsRecord
+    requires { ⌜ start + size < 2 ^ 64 ⌝ }
+    ensures { λ r. ⌜ r ≡ NtsRecord.FixedKeyRequest (record { start = start; len = size / 2 }) (record { start = start + size / 2; len = size / 2 }) ⌝ }
+{
+    let half = size / 2;
+    NtsRecord::FixedKeyRequest {
+        c2s: Part { start, len: half },
+        s2c: Part {
+            start: start + half,
+            len: half,
+        },
+    }
+}
+
+// The protocol at an index of a list of them; nothing past its last whole number.
+pub fn protocol_at(message: &[u8], list: Part, index: usize) -> ProtocolAt
+    ensures { λ r. ⌜ toldProtocol r ≡ numberIn (partAt (now (message .entry)) (list .start) (list .len)) index ⌝ }
+{
+    let bytes = list.of(message);
+    if index < bytes.len() / 2 {
+        return ProtocolAt::Protocol(NextProtocol(wire::number_at(bytes, 2 * index)));
+    }
+    ProtocolAt::Nothing
+}
+
+// The algorithm at an index of a list of them.
+pub fn algorithm_at(message: &[u8], list: Part, index: usize) -> AlgorithmAt
+    ensures { λ r. ⌜ toldAlgorithm r ≡ numberIn (partAt (now (message .entry)) (list .start) (list .len)) index ⌝ }
+{
+    let bytes = list.of(message);
+    if index < bytes.len() / 2 {
+        return AlgorithmAt::Algorithm(AeadAlgorithm(wire::number_at(bytes, 2 * index)));
+    }
+    AlgorithmAt::Nothing
+}
+
+// The algorithm and its key size at an index of a list of such pairs.
+pub fn description_at(message: &[u8], list: Part, index: usize) -> DescriptionAt
+    ensures { λ r. ⌜ toldPair r ≡ pairIn (partAt (now (message .entry)) (list .start) (list .len)) index ⌝ }
+{
+    let bytes = list.of(message);
+    if index < bytes.len() / 4 {
+        let at = 4 * index;
+        return DescriptionAt::Description(AlgorithmDescription {
+            id: AeadAlgorithm(wire::number_at(bytes, at)),
+            keysize: wire::number_at(bytes, at + 2),
+        });
+    }
+    DescriptionAt::Nothing
+}
