@@ -1,4 +1,6 @@
+pub mod Tests
 pub mod Below
 pub mod Rows
 pub mod Run
 pub mod Same
+pub mod Grammar

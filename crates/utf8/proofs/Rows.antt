@@ -2,35 +2,35 @@
 -- ranges, and inside a range each is the same rule about the bytes that follow.
 -- Assumes nothing.
 use mathlib.Core.Path.{_≡_, refl, sym, _∙_}
-use mathlib.Core.Bool.{Bool, true, false, not, _&&_, _||_, and-true}
+use mathlib.Core.Bool.{true, not, _&&_, _||_, and-true}
 use mathlib.Core.List.{List, [], _∷_}
 use Prim.Native.Nat.{ℕ, _≤_, _<_, zero-le}
 use native.Mathlib.Nat.{le-refl}
 use native.Mathlib.Numerals.{towards-numerals}
 use native.Mathlib.Omega.{arith}
-use borrow.Author.Tests.{le-leb, lt-leb, leb-true, leb-false, lt-ltb, le-ltb, ltb-true, eq-eqb, ne-eqb}
+use borrow.Author.Tests.{le-leb, lt-leb, lt-ltb, le-ltb, ltb-true, eq-eqb, ne-eqb}
 use lib.Dec.{leb, ltb, eqb}
 use lib.ListN.{length, getD, drop}
 use lib.Seq.{drop-cons, getD-drop}
 use Rattle.utf8.specs.Utf8.{tail, rows, fits, charSize}
+use Rattle.utf8.proofs.Tests.{upto}
 use Rattle.utf8.specs.Lead.{leadSize, second, sizeOf, sizeAt}
 
-pub on : {C : Type 0} (t : Bool) → (t ≡ true → C) → (t ≡ false → C) → C
-on true f g = f refl
-on false f g = g refl
+-- a test against k takes a number from lo to hi for lo, if k is not above lo or is above hi
+abbrev pub Like : ℕ → ℕ → ℕ → Type 0
+Like lo hi a = (k : ℕ) → (leb k lo || ltb hi k) ≡ true → leb k a ≡ leb k lo
 
--- a number is at most k, or above it
-upto : {C : Type 0} (k a : ℕ) → (a ≤ k → C) → (k < a → C) → C
-upto k a f g = on (leb a k) (λ e. f (leb-true a k e)) (λ e. g (leb-false a k e))
-
--- a test against k says the same of each number from lo to hi, if k is not above lo or is above hi
-from : (lo hi : ℕ) {a : ℕ} → lo ≤ a → a ≤ hi → (k : ℕ) → (leb k lo || ltb hi k) ≡ true → leb k a ≡ leb k lo
-from lo hi {a} p q k e =
+pub like : (lo hi : ℕ) {a : ℕ} → lo ≤ a → a ≤ hi → Like lo hi a
+like lo hi {a} p q k e =
     upto lo k (λ h. le-leb k a (omega arith) ∙ sym (le-leb k lo h))
     (λ h. let l = ltb-true hi k (rw (lt-leb k lo h) at e) in lt-leb k a (omega arith) ∙ sym (lt-leb k lo h))
 
+-- a number from lo on is in the range, or above it
+range : {A : Type 0} (lo hi a : ℕ) → lo ≤ a → (Like lo hi a → A) → (hi < a → A) → A
+range lo hi a p f g = upto hi a (λ q. f (like lo hi p q)) g
+
 -- the two other tests, by that one
-till : (a k : ℕ) → leb a k ≡ not (ltb k a)
+pub till : (a k : ℕ) → leb a k ≡ not (ltb k a)
 till a k = upto k a (λ h. simp (le-leb a k h, le-ltb k a h)) (λ h. simp (lt-leb a k h, lt-ltb k a h))
 
 equal : (a k : ℕ) → eqb a k ≡ (leb k a && leb a k)
@@ -43,17 +43,17 @@ equal a k =
 four : (a b c d : ℕ) → sizeOf a b c d ≡ charSize rows (a ∷ b ∷ c ∷ d ∷ [])
 unfolding sizeOf leadSize second rows fits charSize
 four a b c d =
-    upto 0x7F a (λ q. simp (from 0x00 0x7F zero-le q, till a, equal a))
-    (λ p. upto 0xC1 a (λ q. simp (from 0x80 0xC1 p q, till a, equal a))
-    (λ p. upto 0xDF a (λ q. simp (from 0xC2 0xDF p q, till a, equal a))
-    (λ p. upto 0xE0 a (λ q. simp (from 0xE0 0xE0 p q, till a, equal a))
-    (λ p. upto 0xEC a (λ q. simp (from 0xE1 0xEC p q, till a, equal a))
-    (λ p. upto 0xED a (λ q. simp (from 0xED 0xED p q, till a, equal a))
-    (λ p. upto 0xEF a (λ q. simp (from 0xEE 0xEF p q, till a, equal a))
-    (λ p. upto 0xF0 a (λ q. simp (from 0xF0 0xF0 p q, till a, equal a, and-true))
-    (λ p. upto 0xF3 a (λ q. simp (from 0xF1 0xF3 p q, till a, equal a, and-true))
-    (λ p. upto 0xF4 a (λ q. simp (from 0xF4 0xF4 p q, till a, equal a, and-true))
-    (λ p. simp (from 0xF5 a p (le-refl a), till a, equal a)))))))))))
+    range 0x00 0x7F a zero-le (λ t. simp (t, till a, equal a))
+    (λ p. range 0x80 0xC1 a p (λ t. simp (t, till a, equal a))
+    (λ p. range 0xC2 0xDF a p (λ t. simp (t, till a, equal a))
+    (λ p. range 0xE0 0xE0 a p (λ t. simp (t, till a, equal a))
+    (λ p. range 0xE1 0xEC a p (λ t. simp (t, till a, equal a))
+    (λ p. range 0xED 0xED a p (λ t. simp (t, till a, equal a))
+    (λ p. range 0xEE 0xEF a p (λ t. simp (t, till a, equal a))
+    (λ p. range 0xF0 0xF0 a p (λ t. simp (t, till a, equal a, and-true))
+    (λ p. range 0xF1 0xF3 a p (λ t. simp (t, till a, equal a, and-true))
+    (λ p. range 0xF4 0xF4 a p (λ t. simp (t, till a, equal a, and-true))
+    (λ p. simp (like 0xF5 a p (le-refl a), till a, equal a)))))))))))
 
 -- past the end a byte reads as 0, with which no row goes on
 padded : (a : ℕ) (s : List ℕ) → charSize rows (a ∷ s) ≡ charSize rows (a ∷ getD s 0 0 ∷ getD s 1 0 ∷ getD s 2 0 ∷ [])

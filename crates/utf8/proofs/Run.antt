@@ -1,7 +1,7 @@
 -- Laws of `wellFormed` from a place on: what one turn of a loop over the bytes needs.
 -- Assumes nothing.
 use mathlib.Core.Path.{_≡_, refl, sym, _∙_}
-use mathlib.Core.Bool.{Bool, true, false, _&&_}
+use mathlib.Core.Bool.{Bool, true, false}
 use mathlib.Core.List.{List, [], _∷_}
 use Prim.Native.Nat.{ℕ, zero, suc, _+_, _<_, _≤_, zero-le, suc-le-suc}
 use native.Mathlib.Nat.{le-refl}
@@ -11,18 +11,15 @@ use lib.ListN.{length, getD, drop, length-drop, drop-of-length-le}
 use lib.Seq.{drop-cons, drop-drop}
 use Rattle.utf8.specs.Utf8.{rows, fits, charSize, octets, wellFormed}
 use Rattle.utf8.specs.Lead.{sizeAt, Passed}
-use Rattle.utf8.proofs.Rows.{on, same-size}
-
-and-after : (x y : Bool) → (x && y) ≡ true → y ≡ true
-and-after true y e = e
-and-after false y e = let z : false ≡ true = e in cc
+use Rattle.utf8.proofs.Rows.{same-size}
+use Rattle.utf8.proofs.Tests.{never, on, and-right}
 
 -- a character's bytes are all inside
-fits-inside : (row : List (ℕ → Bool)) (s : List ℕ) → fits row s ≡ true → length row ≤ length s
+pub fits-inside : (row : List (ℕ → Bool)) (s : List ℕ) → fits row s ≡ true → length row ≤ length s
 unfolding fits
 fits-inside [] s e = zero-le
-fits-inside (p ∷ row) [] e = let z : _≡_ {A = ℕ} 0 1 = cc in absurd (omega arith)
-fits-inside (p ∷ row) (b ∷ s) e = suc-le-suc (fits-inside row s (and-after (p b) (fits row s) e))
+fits-inside (p ∷ row) [] e = never e
+fits-inside (p ∷ row) (b ∷ s) e = suc-le-suc (fits-inside row s (and-right (p b) (fits row s) e))
 
 size-inside : (table : List (List (ℕ → Bool))) (s : List ℕ) → charSize table s ≤ length s
 unfolding charSize
@@ -37,12 +34,12 @@ octets-drop (suc k) [] = refl
 octets-drop (suc k) (b ∷ s) = octets-drop k s
 
 -- a list that begins with no character, and one that begins with one of n bytes
-front-none : (s : List ℕ) → 0 < length s → charSize rows s ≡ 0 → wellFormed s ≡ false
+pub front-none : (s : List ℕ) → 0 < length s → charSize rows s ≡ 0 → wellFormed s ≡ false
 unfolding octets wellFormed
 front-none [] h e = absurd (omega arith)
 front-none (b ∷ s) h e = rw (e, octets)
 
-front-some : (s : List ℕ) (n : ℕ) → charSize rows s ≡ n → (n ≡ 0 → ⊥) → wellFormed (drop n s) ≡ wellFormed s
+pub front-some : (s : List ℕ) (n : ℕ) → charSize rows s ≡ n → (n ≡ 0 → ⊥) → wellFormed (drop n s) ≡ wellFormed s
 unfolding octets wellFormed
 front-some s zero e z = absurd (z refl)
 front-some [] (suc k) e z = refl

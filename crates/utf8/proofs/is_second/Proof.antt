@@ -2,7 +2,7 @@
 -- Assumes nothing.
 use borrow.Author.Needs.{needs}
 use borrow.Author.Tests.{lt-leb, le-leb, ne-eqb}
-use mathlib.Core.Path.{_∙_}
+use mathlib.Core.Path.{refl, _∙_}
 use native.Mathlib.Omega.{arith}
 use Rattle.utf8.specs.Utf8.{tail}
 use Rattle.utf8.specs.Lead.{second}
@@ -18,11 +18,11 @@ is-tail-requires-2 c κs = search needs
 
 returns : tie.Need-returns
 unfolding second
-returns c = rw (c .match .keys1) (same-shift _ _ (second 0xE0) tt (c .before .args .b) (search needs))
+returns c = rw (c .match .keys1) (same-shift _ _ (second 0xE0) refl (c .before .args .b) (search needs))
 
 returns-2 : tie.Need-returns-2
 unfolding second
-returns-2 c = rw (c .match .keys2) (same-shift _ _ (second 0xED) tt (c .before .args .b) (search needs))
+returns-2 c = rw (c .match .keys2) (same-shift _ _ (second 0xED) refl (c .before .args .b) (search needs))
 
 returns-3 : tie.Need-returns-3
 unfolding second
@@ -36,7 +36,7 @@ returns-4 c =
 
 returns-5 : tie.Need-returns-5
 unfolding second
-returns-5 c = rw (c .match .keys4) (same-shift _ _ (second 0xF4) tt (c .before .args .b) (search needs))
+returns-5 c = rw (c .match .keys4) (same-shift _ _ (second 0xF4) refl (c .before .args .b) (search needs))
 
 returns-6 : tie.Need-returns-6
 unfolding second tail
