@@ -66,9 +66,17 @@ notNumber n m = cond (ltb m 2) 1 (cond (eqb n 2) 0 2)
 unfoldable pub notHalves : ℕ → ℕ → ℕ
 notHalves n m = cond (ltb m (2 * (n / 2))) 1 (cond (eqb (n % 2) 0) 0 2)
 
+-- 2 if what is there is not UTF-8
+unfoldable pub notUtf8 : List ℕ → ℕ
+notUtf8 b = cond (wellFormed b) 0 2
+
+-- a fault, then the next
+unfoldable pub firstOf : ℕ → ℕ → ℕ
+firstOf f g = cond (eqb f 0) g f
+
 -- a name of which b is there: 2 if that is not UTF-8, then 1 if it is short
 unfoldable pub notName : ℕ → List ℕ → ℕ
-notName n b = cond (wellFormed b) (short n (length b)) 2
+notName n b = firstOf (notUtf8 b) (short n (length b))
 
 -- each by what the body holds
 unfoldable pub faultOf : Shape → ℕ → List ℕ → ℕ

@@ -10,6 +10,8 @@ use Rattle.record.specs.declared.Parsed.{Parsed}
 use Rattle.record.specs.declared.Parsed.the-variants.{Read, Refused}
 use Rattle.record.specs.declared.Fault.{Fault}
 use Rattle.record.specs.declared.Fault.the-variants.{None, Short, IllFormed}
+use Rattle.record.specs.declared.NumberAt.{NumberAt}
+use Rattle.record.specs.declared.NumberAt.the-variants as number-at
 use Rattle.record.specs.declared.ProtocolAt.{ProtocolAt}
 use Rattle.record.specs.declared.ProtocolAt.the-variants as protocol-at
 use Rattle.record.specs.declared.AlgorithmAt.{AlgorithmAt}
@@ -67,6 +69,10 @@ abbrev pub toldFault : Fault → ℕ
 toldFault None = 0
 toldFault Short = 1
 toldFault IllFormed = 2
+
+abbrev pub toldNumber : NumberAt → entry.Entry
+toldNumber (number-at.Number n) = entry.number n
+toldNumber number-at.Nothing = entry.outside
 
 abbrev pub toldProtocol : ProtocolAt → entry.Entry
 toldProtocol (protocol-at.Protocol p) = entry.number (p .0)

@@ -10,9 +10,9 @@ ghost use mathlib.Core.Path.{_≡_};
 ghost use Prim.Native.Nat.{_+_, _/_, _<_, _≤_, _^_};
 ghost use lib.ListN.{length, take, drop};
 ghost use Rattle.wire.specs.Bytes.{partAt};
-ghost use Rattle.record.specs.Record.{kindOf, criticalOf, shapeOf, short, uneven, notNumber, notHalves, notName, faultOf, seenOf, readAt};
+ghost use Rattle.record.specs.Record.{kindOf, criticalOf, shapeOf, short, uneven, notNumber, notHalves, notUtf8, firstOf, notName, faultOf, seenOf, readAt};
 ghost use Rattle.record.specs.Entry.{numberIn, pairIn};
-ghost use Rattle.record.specs.Told.{toldFault, toldRecord, toldParsed, toldProtocol, toldAlgorithm, toldPair};
+ghost use Rattle.record.specs.Told.{toldFault, toldRecord, toldParsed, toldNumber, toldProtocol, toldAlgorithm, toldPair};
 
 // Some bytes of a lent message: where they start in it, and how many there are.
 pub struct Part {
@@ -91,6 +91,11 @@ pub enum Fault {
 }
 
 // What stands at an index of a list.
+enum NumberAt {
+    Number(u16),
+    Nothing,
+}
+
 pub enum ProtocolAt {
     Protocol(NextProtocol),
     Nothing,
@@ -307,10 +312,29 @@ fn halves_fault(size: usize, there: usize) -> Fault
 fn name_fault(size: usize, body: &[u8]) -> Fault
     ensures { λ r. ⌜ toldFault r ≡ notName size (now (body .entry)) ⌝ }
 {
+    let formed = utf8_fault(body);
+    let whole = whole_fault(size, body.len());
+    first_of(formed, whole)
+}
+
+fn utf8_fault(body: &[u8]) -> Fault
+    ensures { λ r. ⌜ toldFault r ≡ notUtf8 (now (body .entry)) ⌝ }
+{
     if utf8::is_utf8(body) {
-        return whole_fault(size, body.len());
+        return Fault::None;
     }
     Fault::IllFormed
+}
+
+// A fault, or where there is none the next one.
+fn first_of(fault: Fault, next: Fault) -> Fault
+    ensures { λ r. ⌜ toldFault r ≡ firstOf (toldFault fault) (toldFault next) ⌝ }
+{
+    match fault {
+        Fault::None => next,
+        Fault::Short => fault,
+        Fault::IllFormed => fault,
+    }
 }
 
 // The record of a kind whose body, `size` bytes from `start` on, has no fault.
@@ -357,26 +381,36 @@ fn halves_of(start: usize, size: usize) -> NtsRecord
     }
 }
 
-// The protocol at an index of a list of them; nothing past its last whole number.
+// The number at an index of a list of them; nothing past its last whole number.
+fn number_in(list: &[u8], index: usize) -> NumberAt
+    ensures { λ r. ⌜ toldNumber r ≡ numberIn (now (list .entry)) index ⌝ }
+{
+    if index < list.len() / 2 {
+        return NumberAt::Number(wire::number_at(list, 2 * index));
+    }
+    NumberAt::Nothing
+}
+
+// The protocol at an index of a list of protocols.
 pub fn protocol_at(message: &[u8], list: Part, index: usize) -> ProtocolAt
     ensures { λ r. ⌜ toldProtocol r ≡ numberIn (partAt (now (message .entry)) (list .start) (list .len)) index ⌝ }
 {
-    let bytes = list.of(message);
-    if index < bytes.len() / 2 {
-        return ProtocolAt::Protocol(NextProtocol(wire::number_at(bytes, 2 * index)));
+    let entry = number_in(list.of(message), index);
+    match entry {
+        NumberAt::Number(n) => ProtocolAt::Protocol(NextProtocol(n)),
+        NumberAt::Nothing => ProtocolAt::Nothing,
     }
-    ProtocolAt::Nothing
 }
 
-// The algorithm at an index of a list of them.
+// The algorithm at an index of a list of algorithms.
 pub fn algorithm_at(message: &[u8], list: Part, index: usize) -> AlgorithmAt
     ensures { λ r. ⌜ toldAlgorithm r ≡ numberIn (partAt (now (message .entry)) (list .start) (list .len)) index ⌝ }
 {
-    let bytes = list.of(message);
-    if index < bytes.len() / 2 {
-        return AlgorithmAt::Algorithm(AeadAlgorithm(wire::number_at(bytes, 2 * index)));
+    let entry = number_in(list.of(message), index);
+    match entry {
+        NumberAt::Number(n) => AlgorithmAt::Algorithm(AeadAlgorithm(n)),
+        NumberAt::Nothing => AlgorithmAt::Nothing,
     }
-    AlgorithmAt::Nothing
 }
 
 // The algorithm and its key size at an index of a list of such pairs.

@@ -1,6 +1,6 @@
 -- `record::description_at` meets its contract: the index is inside exactly where the definition tests it.
 -- Assumes nothing.
-use Rattle.record.proofs.Entry.{pair-inside, pair-outside}
+use Rattle.record.proofs.Entry.{pair-inside, pair-outside, pair-handed-on}
 use borrow.Author.Needs.{needs}
 use Rattle.record.proofs.description_at.Statement.{statement}
 use Rattle.record.proofs.description_at.Tie as tie
@@ -21,10 +21,10 @@ number-at-requires-2 : tie.Need-number-at-requires-2
 number-at-requires-2 c κs = search needs
 
 returns : tie.Need-returns
-returns c = pair-inside _ _ _ (c .before .before .before .of .ensures) _ _ (c .before .before .if1 .taken) (c .before .number-at .ensures) (c .number-at2 .ensures)
+returns c = pair-handed-on _ _ _ _ (pair-inside _ _ _ _ (c .before .before .if1 .taken) (c .before .number-at .ensures) (c .number-at2 .ensures)) (c .before .before .before .of .ensures)
 
 returns-2 : tie.Need-returns-2
-returns-2 c = pair-outside _ _ _ (c .before .of .ensures) (c .if1 .left)
+returns-2 c = pair-handed-on _ _ _ _ (pair-outside _ _ (c .if1 .left)) (c .before .of .ensures)
 
 pub description-at-spec : {M : Type 1} → statement M
 description-at-spec =

@@ -1,6 +1,6 @@
--- `record::protocol_at` meets its contract: the index is inside exactly where the definition tests it.
+-- `record::protocol_at` meets its contract: what was found in the list is handed on under its type.
 -- Assumes nothing.
-use Rattle.record.proofs.Entry.{number-inside, number-outside}
+use Rattle.record.proofs.Entry.{handed-on}
 use borrow.Author.Needs.{needs}
 use Rattle.record.proofs.protocol_at.Statement.{statement}
 use Rattle.record.proofs.protocol_at.Tie as tie
@@ -8,18 +8,22 @@ use Rattle.record.proofs.protocol_at.Tie as tie
 of-requires : tie.Need-of-requires
 of-requires c κs = search needs
 
-mul-number-at : tie.Need-mul-number-at
-mul-number-at c = search needs
+number-in-requires : tie.Need-number-in-requires
+number-in-requires c κs = search needs
 
-number-at-requires : tie.Need-number-at-requires
-number-at-requires c κs = search needs
+enum-known-entry : tie.Need-enum-known-entry
+enum-known-entry c = search needs
+
+enum-told : tie.Need-enum-told
+enum-told c = search needs
 
 returns : tie.Need-returns
-returns c = number-inside _ _ _ (c .before .before .of .ensures) _ (c .before .if1 .taken) (c .number-at .ensures)
+returns c = handed-on _ _ _ _ _ (c .before .entry .given .1) (c .before .before .before .number-in .ensures) (c .before .before .before .before .of .ensures)
 
 returns-2 : tie.Need-returns-2
-returns-2 c = number-outside _ _ _ (c .before .of .ensures) (c .if1 .left)
+returns-2 c = handed-on _ _ _ _ _ (c .enum-told .given .1) (c .before .before .number-in .ensures) (c .before .before .before .of .ensures)
 
 pub protocol-at-spec : {M : Type 1} → statement M
 protocol-at-spec =
-    tie.close (tie.spec of-requires mul-number-at number-at-requires returns returns-2)
+    tie.close
+    (tie.spec of-requires number-in-requires enum-known-entry enum-told returns returns-2)
