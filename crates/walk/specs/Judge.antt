@@ -1,0 +1,47 @@
+-- The decision after the end record, as a function of the bodies found, by kind; and a whole reader: 01, "From records to a request", "After
+-- the end", and "Choosing and replying". It is generic over what shows a body, so that it cannot look at a place.
+use Prim.Native.Nat.{ℕ}
+use mathlib.Core.List.{List, [], _∷_}
+use mathlib.Core.Bool.{Bool, true, false, cond}
+use lib.ListN.{length, take, drop}
+use lib.Dec.{eqb}
+use Rattle.nts.specs.Refusal.{Beside, Refused}
+use Rattle.walk.specs.Walk.{Reader, Sighting, Outcome, stopped, ended, walk}
+
+-- refused with a number, or accepted with contents of the form Q over the bodies
+pub data Verdict (Q : Type 0 → Type 0) (A : Type 0) : Type 0 where
+  no : ℕ → Beside → Verdict Q A
+  yes : Q A → Verdict Q A
+
+pub record Judge : Type 1 where
+  -- the form of an accepted answer, over what stands for a body
+  pub Q : Type 0 → Type 0
+  pub mapQ : {A B : Type 0} → (A → B) → Q A → Q B
+  -- from what shows a body's bytes, and from the bodies found of each kind, in record order
+  pub decide : {A : Type 0} → (A → List ℕ) → (ℕ → List A) → Verdict Q A
+
+-- what was noted of a kind, in record order
+abbrev pub ofKind : ℕ → List Sighting → List Sighting
+ofKind k [] = []
+ofKind k (x ∷ st) = cond (eqb (x .of) k) (x ∷ ofKind k st) (ofKind k st)
+
+-- the body of a noted record
+abbrev pub bodyIn : List ℕ → Sighting → List ℕ
+bodyIn m x = take (x .len) (drop (x .start) m)
+
+pub data Answer (Q : Type 0 → Type 0) : Type 0 where
+  refused : Refused → Answer Q
+  accepted : Q Sighting → Answer Q
+
+-- a refusal decided after the end record bears the end record's place
+abbrev pub placed : {Q : Type 0 → Type 0} → ℕ → Verdict Q Sighting → Answer Q
+placed at (no n b) = refused (record { number = n; beside = b; place = at })
+placed at (yes q) = accepted q
+
+unfoldable pub finish : (D : Judge) → List ℕ → Outcome → Answer (D .Q)
+finish D m (stopped r) = refused r
+finish D m (ended at next st) = placed at (D .decide (bodyIn m) (λ k. ofKind k st))
+
+-- a message m read as if it were cut after n bytes
+unfoldable pub readBy : Reader → (D : Judge) → List ℕ → ℕ → Answer (D .Q)
+readBy R D m n = finish D m (walk R [] 0 0 (take n m))

@@ -1,0 +1,83 @@
+-- The walk over a message, once for every reader: 01, "From records to a request" and "Choosing and replying": read through the first end
+-- record; what follows is not looked at; the first fault in record order is the one told, at the place of its record.
+use Prim.Native.Nat.{ℕ, zero, suc, _+_}
+use mathlib.Core.List.{List, [], _∷_, _++_}
+use mathlib.Core.Bool.{Bool, true, false, cond, _&&_, _||_}
+use lib.ListN.{length}
+use lib.Dec.{ltb, eqb}
+use Rattle.nts.specs.Refusal.{Beside, nothing, Refused}
+use Rattle.record.specs.Record.{kind, critical, size, there, faultOf}
+use Rattle.record.specs.declared.Shape.{Shape}
+
+-- ---- a reader is a table by kind
+
+-- what it does with a record that has no fault: it ends with it, passes over it, notes it for the decision after the end, or refuses it
+pub data Act : Type 0 where
+  ends passes notes : Act
+  refuses : ℕ → Beside → Act
+
+pub record Reader : Type 0 where
+  -- what a kind's body holds
+  pub shape : ℕ → Shape
+  -- by kind, critical bit and body
+  pub act : ℕ → Bool → List ℕ → Act
+  -- a second record of such a kind is 4
+  pub once : ℕ → Bool
+
+-- of the record at the list's front: the fault of its header or body, 0 for none ..
+unfoldable pub faultIn : Reader → List ℕ → ℕ
+faultIn R s = cond (ltb (length s) 4) 1 (faultOf (R .shape (kind s)) (size s) (there s))
+
+-- .. and then its meaning
+unfoldable pub actIn : Reader → List ℕ → Act
+actIn R s = R .act (kind s) (critical s) (there s)
+
+-- ---- one record
+
+-- a record that was noted: its kind, and where its body lies in the message
+pub record Sighting : Type 0 where
+  pub of : ℕ
+  pub start : ℕ
+  pub len : ℕ
+
+-- how a walk stops: with a refusal, or with the end record at a place, the place after it, and what was noted, in record order
+pub data Outcome : Type 0 where
+  stopped : Refused → Outcome
+  ended : ℕ → ℕ → List Sighting → Outcome
+
+pub data Step : Type 0 where
+  stops : Outcome → Step
+  goes : List Sighting → Step
+
+-- whether a record of the kind was noted
+unfoldable pub has : ℕ → List Sighting → Bool
+has k [] = false
+has k (x ∷ st) = eqb (x .of) k || has k st
+
+-- what a record of n body bytes at a place does to what was noted
+unfoldable pub meet : Reader → List Sighting → ℕ → ℕ → ℕ → Act → Step
+meet R st at k n ends = stops (ended at (at + (4 + n)) st)
+meet R st at k n passes = goes st
+meet R st at k n notes =
+    cond (R .once k && has k st)
+    (stops (stopped (record { number = 4; beside = nothing; place = at })))
+    (goes (st ++ (record { of = k; start = at + 4; len = n } ∷ [])))
+meet R st at k n (refuses c b) = stops (stopped (record { number = c; beside = b; place = at }))
+
+-- the fault first, and where there is none the meaning
+unfoldable pub judge : Reader → List Sighting → ℕ → List ℕ → ℕ → Step
+judge R st at s zero = meet R st at (kind s) (size s) (actIn R s)
+judge R st at s (suc f) = stops (stopped (record { number = suc f; beside = nothing; place = at }))
+
+-- the record at the front of s, which begins at `at`
+unfoldable pub step : Reader → List Sighting → ℕ → List ℕ → Step
+step R st at s = judge R st at s (faultIn R s)
+
+-- ---- one record after the other
+
+-- from s on, which begins at `at`, after k more bytes of the record begun
+unfoldable pub walk : Reader → List Sighting → ℕ → ℕ → List ℕ → Outcome
+walk R st at k [] = stopped (record { number = 1; beside = nothing; place = at })
+walk R st at (suc k) (b ∷ s) = walk R st at k s
+walk R st at zero (b ∷ s) =
+    elim (step R st at (b ∷ s)) [ stops o ↦ o | goes st′ ↦ walk R st′ (at + (4 + size (b ∷ s))) (3 + size (b ∷ s)) s ]

@@ -1,0 +1,1 @@
+// The walk over a message, defined once for every reader: definitions in specs/, what holds for every reader in proofs/.
