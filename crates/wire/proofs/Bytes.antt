@@ -1,13 +1,13 @@
 -- Laws of numbers and parts of a list.
 -- Assumes nothing.
-use mathlib.Core.Path.{_≡_, refl, sym, ap, _∙_}
-use mathlib.Core.List.{List, []}
+use mathlib.Core.Path.{_≡_, ap}
+use mathlib.Core.List.{List}
 use Prim.Native.Nat.{ℕ, _+_, _-_, _*_, _<_, _≤_}
 use native.Mathlib.Nat.{add-sub-cancel-left, sub-self}
 use native.Mathlib.Omega.{arith}
 use borrow.Author.Tests.{le-leb, lt-leb}
-use lib.ListN.{length, getD, take, drop, List·getD-eq-default}
-use lib.Seq.{getD-drop}
+use lib.ListN.{length, getD, take, drop, length-drop, List·getD-eq-default}
+use lib.Seq.{getD-drop, length-take-le}
 use Rattle.wire.specs.Bytes.{numberAt, partAt}
 
 -- past the end both bytes read as 0
@@ -31,3 +31,7 @@ part-none s i start n h = rw (lt-leb (start + n) (length s) h, sub-self)
 pub part-some : (s : List ℕ) (start n : ℕ) → start + n ≤ length s → take (start + n - start) (drop start s) ≡ partAt s start n
 unfolding partAt
 part-some s start n h = rw (le-leb (start + n) (length s) h, add-sub-cancel-left)
+
+pub length-part : (s : List ℕ) (start n : ℕ) → start + n ≤ length s → length (partAt s start n) ≡ n
+unfolding partAt
+length-part s start n h = rw (le-leb (start + n) (length s) h) (length-take-le n (drop start s) (omega (arith, length-drop start s)))

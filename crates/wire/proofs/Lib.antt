@@ -1,2 +1,3 @@
 pub mod Bytes
+pub mod Over
 pub mod Same
