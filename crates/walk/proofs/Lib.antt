@@ -1,1 +1,3 @@
 pub mod Unroll
+pub mod Chunks
+pub mod Faultless

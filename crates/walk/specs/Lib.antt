@@ -1,2 +1,4 @@
 pub mod Walk
 pub mod Judge
+pub mod Message
+pub mod Table
