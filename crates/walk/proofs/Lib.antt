@@ -1,3 +1,4 @@
 pub mod Unroll
 pub mod Chunks
 pub mod Faultless
+pub mod Passing
