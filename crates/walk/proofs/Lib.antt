@@ -2,3 +2,4 @@ pub mod Unroll
 pub mod Chunks
 pub mod Faultless
 pub mod Passing
+pub mod Reorder
