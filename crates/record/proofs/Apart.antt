@@ -7,12 +7,10 @@ use native.Mathlib.Omega.{arith}
 use lib.Dec.{eqb}
 use Rattle.nts.proofs.Apart.{apart, refusal-apart}
 use Rattle.nts.specs.Refusal.{toldRefusal}
-use Rattle.nts.specs.declared.Refusal.{Refusal}
-use Rattle.record.specs.Record.{Value, skipped, number, part, halves, unknown, Seen, Told, read, refused}
+use Rattle.record.specs.Record.{Value, skipped, number, part, halves, unknown, Seen, read}
 use Rattle.record.specs.Entry as entry
 use Rattle.record.specs.Told.{toldRecord, toldParsed, toldProtocol, toldAlgorithm, toldPair}
 use Rattle.record.specs.declared.Part.{Part}
-use Rattle.record.specs.declared.Reading.{Reading}
 use Rattle.record.specs.declared.Cursor.{Cursor}
 use Rattle.record.specs.declared.NtsRecord.{NtsRecord}
 use Rattle.record.specs.declared.NtsRecord.the-variants.{EndOfMessage, NextProtocol, Error, Warning, AeadAlgorithm, NewCookie, Server, Port, KeepAlive, SupportedNextProtocolList, SupportedAlgorithmList, FixedKeyRequest, NtpServerDeny, Authentication, Unknown}

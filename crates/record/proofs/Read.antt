@@ -1,7 +1,7 @@
 -- What `readAt` is, from what the reader found on the way.
 -- Assumes nothing.
-use mathlib.Core.Path.{_≡_, refl, sym, ap, _∙_}
-use mathlib.Core.Bool.{Bool, true, false, cond}
+use mathlib.Core.Path.{_≡_, sym, ap, _∙_}
+use mathlib.Core.Bool.{Bool}
 use mathlib.Core.List.{List}
 use Prim.Native.Nat.{ℕ, _+_, _-_, _<_, _≤_}
 use native.Mathlib.Nat.{add-sub-cancel-left}
@@ -9,10 +9,9 @@ use native.Mathlib.Omega.{arith}
 use borrow.Author.Tests.{lt-ltb, le-ltb, eq-eqb, ne-eqb}
 use lib.ListN.{length, take, drop, length-drop}
 use lib.Seq.{take-all}
-use lib.Dec.{ltb, eqb}
 use Rattle.wire.specs.Bytes.{numberAt}
 use Rattle.nts.specs.Refusal.{nothing}
-use Rattle.record.specs.Record.{kindOf, criticalOf, kind, critical, size, there, shapeOf, faultOf, fault, Seen, seenOf, Told, read, refused, readFrom, readAt}
+use Rattle.record.specs.Record.{kindOf, criticalOf, kind, critical, size, there, shapeOf, faultOf, fault, Seen, seenOf, read, refused, readFrom, readAt}
 use Rattle.record.specs.declared.Shape.{Shape}
 
 -- all that follows a header is what is there of a body that is short

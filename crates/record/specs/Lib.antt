@@ -1,3 +1,4 @@
 pub mod Record
 pub mod Told
 pub mod Entry
+pub mod Write

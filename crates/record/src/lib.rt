@@ -1,4 +1,6 @@
-// One record of the NTS key exchange: what it can be, and how it is read (the crate's src/nts/record.rs).
+// One record of the NTS key exchange: what it can be, how it is read and how it is written (the crate's src/nts/record.rs).
+mod write;
+
 use nts::AeadAlgorithm;
 use nts::AlgorithmDescription;
 use nts::ErrorCode;
@@ -6,6 +8,8 @@ use nts::NextProtocol;
 use nts::NtsError;
 use nts::Refusal;
 use nts::WarningCode;
+pub use write::ByteCount;
+pub use write::put_header;
 ghost use mathlib.Core.Path.{_≡_};
 ghost use Prim.Native.Nat.{_+_, _/_, _<_, _≤_, _^_};
 ghost use lib.ListN.{length, take, drop};
@@ -133,6 +137,9 @@ impl NtsRecord {
     pub const SUPPORTED_NEXT_PROTOCOL_LIST: u16 = 9;
 
     pub const SUPPORTED_ALGORITHM_LIST: u16 = 10;
+
+    // The one number below the last known kind that no kind has.
+    pub const KIND_WITHOUT_NAME: u16 = 11;
 
     pub const FIXED_KEY_REQUEST: u16 = 12;
 

@@ -65,6 +65,14 @@ as-put b e = record { count = refl; size = refl; left = e }
 pub put-as : {n n′ r : ℕ} {b b′ o o′ : List ℕ} → Put n b o r o′ → n ≡ n′ → b ≡ b′ → Put n′ b′ o r o′
 put-as p e f = rw (← e, ← f) p
 
+-- where there is room for m bytes more, the rest of the output has it
+pub rest-room : {n m : ℕ} {a o o₁ : List ℕ} {at : ℕ} → Put n a o at o₁ → n + m ≤ length o → m ≤ length (midOf at (length o₁ - at) o₁)
+rest-room {n} {m} {a} {o} {o₁} {at} p room =
+    let l : length o₁ ≡ length o = ap length (p .left) ∙ length-over a o (omega (arith, p .size)) in
+    let g : length o₁ - at ≤ length (drop at o₁) = omega (arith, length-drop at o₁) in
+    let e = length-take-le (length o₁ - at) (drop at o₁) g in
+    omega (arith, p .count)
+
 -- what two writers leave, the second in the rest of the output
 pub put-then : {n m : ℕ} {a b o o₁ o₂ : List ℕ} {at r : ℕ} → Put n a o at o₁ → Put m b (midOf at (length o₁ - at) o₁) r o₂ → n + m ≤ length o
     → Put (n + m) (a ++ b) o (at + r) (putMid at (length o₁ - at) o₁ o₂)
@@ -88,11 +96,7 @@ tried-put {n} {r} {b} {o} {o′} h p =
 -- a total writer in the rest of the output, of which there is enough
 pub try-then : {n m : ℕ} {a b o o₁ o₂ : List ℕ} {at r : ℕ} → Put n a o at o₁ → Tried m b (midOf at (length o₁ - at) o₁) r o₂ → n + m ≤ length o
     → Put (n + m) (a ++ b) o (at + r) (putMid at (length o₁ - at) o₁ o₂)
-try-then {n} {m} {a} {b} {o} {o₁} {o₂} {at} {r} p q room =
-    let l : length o₁ ≡ length o = ap length (p .left) ∙ length-over a o (omega (arith, p .size)) in
-    let g : length o₁ - at ≤ length (drop at o₁) = omega (arith, length-drop at o₁) in
-    let e = length-take-le (length o₁ - at) (drop at o₁) g in
-    put-then p (q .room (omega (arith, p .count))) room
+try-then p q room = put-then p (q .room (rest-room p room)) room
 
 -- it determines the answer and the whole output
 decided : {n r q : ℕ} {b o o′ o″ : List ℕ} (t : Bool) → leb n (length o) ≡ t → Tried n b o r o′ → Tried n b o q o″ → (r ≡ q) × (o′ ≡ o″)
