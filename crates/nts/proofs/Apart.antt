@@ -58,6 +58,9 @@ error-back NoOverlappingProtocol p = refl
 error-back NoOverlappingAlgorithm p = refl
 error-back NoCookie p = refl
 
+pub error-apart : (x y : NtsError) → numberOf x ≡ numberOf y → besideOf x ≡ besideOf y → x ≡ y
+error-apart x y p q = sym (error-back x 0) ∙ (λ j. error-from (record { number = p j; beside = q j; place = 0 })) ∙ error-back y 0
+
 refusal-from : Refused → Refusal
 refusal-from r = record { error = error-from r; place = r .place }
 

@@ -2,14 +2,18 @@
 -- Assumes nothing.
 use mathlib.Core.Path.{_≡_, sym, _∙_}
 use denote.Ref.{now}
-use Rattle.record.proofs.Apart.{cursor-apart, parsed-apart, protocol-apart, algorithm-apart, pair-apart}
+use Rattle.wire.proofs.Over.{tried-same}
+use Rattle.record.proofs.Apart.{cursor-apart, parsed-apart, protocol-apart, algorithm-apart, pair-apart, count-apart, wrote-same}
 use Rattle.record.proofs.Part.of.Reads as of
 use Rattle.record.proofs.NtsRecord.parse.Reads as parse
+use Rattle.record.proofs.NtsRecord.serialize.Reads as serialize
+use Rattle.record.proofs.NtsRecord.length.Reads as length
 use Rattle.record.proofs.Cursor.new.Reads as new
 use Rattle.record.proofs.Cursor.read.Reads as read
 use Rattle.record.proofs.protocol_at.Reads as protocol-at
 use Rattle.record.proofs.algorithm_at.Reads as algorithm-at
 use Rattle.record.proofs.description_at.Reads as description-at
+use Rattle.record.proofs.write.put_header.Reads as put-header
 
 pub Part-of-same : (κs : _) (a : _) (r r′ : _) (e e′ : _) → of.Learnt κs a r e → of.Learnt κs a r′ e′ → now r ≡ now r′
 Part-of-same κs a r r′ e e′ p q = p ∙ sym q
@@ -31,3 +35,13 @@ algorithm-at-same κs a r r′ e e′ p q = algorithm-apart r r′ (p ∙ sym q)
 
 pub description-at-same : (κs : _) (a : _) (r r′ : _) (e e′ : _) → description-at.Learnt κs a r e → description-at.Learnt κs a r′ e′ → r ≡ r′
 description-at-same κs a r r′ e e′ p q = pair-apart r r′ (p ∙ sym q)
+
+pub NtsRecord-length-same : (κs : _) (a : _) (r r′ : _) (e e′ : _) → length.Learnt κs a r e → length.Learnt κs a r′ e′ → r ≡ r′
+NtsRecord-length-same κs a r r′ e e′ p q = count-apart r r′ (p ∙ sym q)
+
+-- a writer's output afterwards is among what the contract determines
+pub NtsRecord-serialize-same : (κs : _) (a : _) (r r′ : _) (e e′ : _) → serialize.Learnt κs a r e → serialize.Learnt κs a r′ e′ → (r ≡ r′) × (now (e .1 .1 .0) ≡ now (e′ .1 .1 .0))
+NtsRecord-serialize-same κs a r r′ e e′ p q = wrote-same p q
+
+pub put-header-same : (κs : _) (a : _) (r r′ : _) (e e′ : _) → put-header.Learnt κs a r e → put-header.Learnt κs a r′ e′ → (r ≡ r′) × (now (e .1 .1 .0) ≡ now (e′ .1 .1 .0))
+put-header-same κs a r r′ e e′ p q = tried-same p q
