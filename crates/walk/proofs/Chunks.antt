@@ -1,6 +1,6 @@
 -- Whole records as chunks of a message: in front of more bytes a chunk is read as it is alone, and a walk goes from chunk to chunk.
 -- Assumes nothing.
-use mathlib.Core.Path.{_≡_, refl, sym, _∙_, ap}
+use mathlib.Core.Path.{_≡_, refl, _∙_, ap}
 use mathlib.Core.List.{List, [], _∷_, _++_, append-assoc}
 use Prim.Native.Nat.{ℕ, zero, suc, _+_, _≤_, _<_}
 use native.Mathlib.Omega.{arith}
@@ -66,6 +66,10 @@ module _ (c r : List ℕ) (whole : Whole c) where
     unroll-chunk st at = unroll R st at (c ++ r) ∙ rw (step-append st at, size-append c r header, ← whole, drop-at c r (length c) refl)
 
 -- ---- the walk over chunks
+
+pub each-map : {P Q : List ℕ → Type 0} → ((c : List ℕ) → P c → Q c) → (cs : List (List ℕ)) → Each P cs → Each Q cs
+each-map f [] h = tt
+each-map f (c ∷ cs) h = (f c (h .0), each-map f cs (h .1))
 
 -- a step, and the next if it goes on
 abbrev pub follow : Step → (List Sighting → Step) → Step

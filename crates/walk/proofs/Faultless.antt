@@ -3,7 +3,7 @@
 use mathlib.Core.Path.{_≡_, refl}
 use mathlib.Core.List.{List}
 use mathlib.Core.Bool.{Bool, true, false, cond}
-use Prim.Native.Nat.{ℕ, zero, suc, _+_, _*_, _/_, _%_, _≤_}
+use Prim.Native.Nat.{ℕ, suc, _+_, _*_, _/_, _%_, _≤_}
 use native.Mathlib.Omega.{arith}
 use lib.ListN.{length, length-take, length-drop}
 use lib.Dec.{ltb, eqb}
@@ -93,4 +93,5 @@ plain-short x n b unknown h = rw (le-ltb (length b) n h)
 pub whole-faultless : (R : Reader) (c : List ℕ) → Plain (R .shape (kind c)) → Whole c → faultIn R c ≡ 0
 unfolding faultIn there
 whole-faultless R c p w =
-    rw (le-ltb (length c) 4 (omega arith)) (plain-short (R .shape (kind c)) (size c) (there c) p (simp (length-take, length-drop) (omega arith)))
+    let all : size c ≤ length (there c) = simp (length-take, length-drop) (omega arith) in
+    rw (le-ltb (length c) 4 (omega arith)) (plain-short (R .shape (kind c)) (size c) (there c) p all)

@@ -3,3 +3,4 @@ pub mod Chunks
 pub mod Faultless
 pub mod Passing
 pub mod Reorder
+pub mod Laws

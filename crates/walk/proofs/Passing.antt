@@ -4,7 +4,7 @@
 use mathlib.Core.Path.{_≡_, refl, sym, _∙_, ap}
 use mathlib.Core.List.{List, [], _∷_, _++_, append-assoc, append-nil}
 use mathlib.Core.Bool.{Bool, true, false, _&&_, _||_, cond, true≢false}
-use Prim.Native.Nat.{ℕ, zero, suc, _+_, _-_, _≤_, _<_}
+use Prim.Native.Nat.{ℕ, zero, suc, _+_, _-_, _≤_}
 use native.Mathlib.Omega.{arith}
 use native.Mathlib.Nat.{add-sub-of-le}
 use lib.ListN.{length, take, drop, length-append, length-take, length-drop, take-append-drop}
@@ -17,7 +17,7 @@ use Rattle.walk.specs.Walk.{Act, ends, passes, notes, refuses, Reader, f
 use Rattle.walk.specs.Walk.{has, meet, judge, step, walk}
 use Rattle.walk.specs.Message.{Whole, Each, flat, message, Parts}
 use Rattle.walk.proofs.Unroll.{after, unroll}
-use Rattle.walk.proofs.Chunks.{size-append, unroll-chunk, follow, run}
+use Rattle.walk.proofs.Chunks.{size-append, unroll-chunk, run}
 use Rattle.walk.proofs.Faultless.{faultless-whole}
 
 -- whether a walk reached an end record
@@ -141,7 +141,8 @@ module _ (R : Reader) where
   sightingsIn at [] = []
   sightingsIn at (c ∷ cs) = cond (noted c) (sightingAt at c ∷ sightingsIn (at + length c) cs) (sightingsIn (at + length c) cs)
 
-  pub run-passed : (st : List Sighting) (at : ℕ) (cs : List (List ℕ)) → Passed (seenIn st) cs → run R st at cs ≡ goes (st ++ sightingsIn at cs)
+  pub run-passed : (st : List Sighting) (at : ℕ) (cs : List (List ℕ)) → Passed (seenIn st) cs
+      → run R st at cs ≡ goes (st ++ sightingsIn at cs)
   unfolding run
   run-passed st at [] h = rw append-nil
   run-passed st at (c ∷ cs) h =
@@ -157,12 +158,14 @@ module _ (R : Reader) where
   pub walk-whole : (st : List Sighting) (at : ℕ) (s : List ℕ) → reached (walk R st at 0 s) ≡ true → 4 + size s ≤ length s
   walk-whole st at s h = faultless-whole R s (go (step R st at s) (step-tells st at s) (rw unroll at h))
     where
-      go : (x : Step) → Tells st at s x → reached (after x (λ st′. walk R st′ (at + (4 + size s)) 0 (drop (4 + size s) s))) ≡ true → faultIn R s ≡ 0
+      go : (x : Step) → Tells st at s x → reached (after x (λ st′. walk R st′ (at + (4 + size s)) 0 (drop (4 + size s) s))) ≡ true
+          → faultIn R s ≡ 0
       go (stops o) t l = t l .0
       go (goes st′) t l = t .0 .faultless
 
   -- the record at the front is within the limit
-  pub walk-fits : (st : List Sighting) (at n : ℕ) (c r : List ℕ) → Whole c → reached (walk R st at 0 (take n (c ++ r))) ≡ true → length c ≤ n
+  pub walk-fits : (st : List Sighting) (at n : ℕ) (c r : List ℕ) → Whole c → reached (walk R st at 0 (take n (c ++ r))) ≡ true
+      → length c ≤ n
   walk-fits st at n c r w h = go (ltb n (length c)) refl
     where
       go : (t : Bool) → ltb n (length c) ≡ t → length c ≤ n
@@ -188,7 +191,8 @@ module _ (R : Reader) where
       → reached (walk R st at 0 (take n (message cs e t))) ≡ true → (length (flat cs) + length e ≤ n) × Passed R (seenIn st) cs
   reached-passed st at n [] e t w we h = (omega (arith, walk-fits R st at n e t we h), tt)
   reached-passed st at n (c ∷ cs) e t w we h =
-      go (step R st at c) (step-tells R st at c) (rw (unroll-chunk c rest (w .0 .0) R st at) at over) (λ st₁ g. reached-passed st₁ (at + length c) (n - length c) cs e t (w .1) we g)
+      go (step R st at c) (step-tells R st at c) (rw (unroll-chunk c rest (w .0 .0) R st at) at over)
+      (λ st₁ g. reached-passed st₁ (at + length c) (n - length c) cs e t (w .1) we g)
     where
       rest : List ℕ
       rest = take (n - length c) (message cs e t)
@@ -203,7 +207,8 @@ module _ (R : Reader) where
       over = rw (take-over n c (message cs e t) fits) at front
 
       go : (x : Step) → Tells R st at c x → reached (after x (λ st₁. walk R st₁ (at + length c) 0 rest)) ≡ true
-          → ((st₁ : List Sighting) → reached (walk R st₁ (at + length c) 0 rest) ≡ true → (length (flat cs) + length e ≤ n - length c) × Passed R (seenIn st₁) cs)
+          → ((st₁ : List Sighting) → reached (walk R st₁ (at + length c) 0 rest) ≡ true
+          → (length (flat cs) + length e ≤ n - length c) × Passed R (seenIn st₁) cs)
           → (length (flat (c ∷ cs)) + length e ≤ n) × Passed R (seenIn st) (c ∷ cs)
       go (stops o) x g later = absurd (w .0 .1 (x g .1))
       go (goes st₁) x g later =
@@ -212,10 +217,12 @@ module _ (R : Reader) where
 
   -- ---- every message that is read to its end is chunks and an end record
 
-  split-by : (fuel : ℕ) (st : List Sighting) (at : ℕ) (s : List ℕ) → length s ≤ fuel → reached (walk R st at 0 s) ≡ true → Parts Inner Last s (length s)
+  split-by : (fuel : ℕ) (st : List Sighting) (at : ℕ) (s : List ℕ) → length s ≤ fuel → reached (walk R st at 0 s) ≡ true
+      → Parts Inner Last s (length s)
   split-by zero st at s l h = absurd (omega (arith, walk-whole R st at s h))
   split-by (suc fuel) st at s l h =
-      go (step R st at c) (step-tells R st at c) (rw (unroll-chunk c r w R st at) at whole) (λ st₁ g. split-by fuel st₁ (at + length c) r (omega (arith, length-drop (4 + size s) s, big)) g)
+      go (step R st at c) (step-tells R st at c) (rw (unroll-chunk c r w R st at) at whole)
+      (λ st₁ g. split-by fuel st₁ (at + length c) r (omega (arith, length-drop (4 + size s) s, big)) g)
     where
       big : 4 + size s ≤ length s
       big = walk-whole R st at s h
@@ -236,7 +243,8 @@ module _ (R : Reader) where
       whole = rw take-append-drop h
 
       go : (x : Step) → Tells R st at c x → reached (after x (λ st₁. walk R st₁ (at + length c) 0 r)) ≡ true
-          → ((st₁ : List Sighting) → reached (walk R st₁ (at + length c) 0 r) ≡ true → Parts Inner Last r (length r)) → Parts Inner Last s (length s)
+          → ((st₁ : List Sighting) → reached (walk R st₁ (at + length c) 0 r) ≡ true → Parts Inner Last r (length r))
+          → Parts Inner Last s (length s)
       go (stops o) x g later =
           record {
             front = [];
@@ -253,7 +261,9 @@ module _ (R : Reader) where
             front = c ∷ y .front;
             last = y .last;
             tail = y .tail;
-            joined = sym (take-append-drop (4 + size s) s) ∙ ap (λ (m : List ℕ). c ++ m) (y .joined) ∙ sym (append-assoc c (flat (y .front)) (y .last ++ y .tail));
+            joined =
+                sym (take-append-drop (4 + size s) s) ∙ ap (λ (m : List ℕ). c ++ m) (y .joined)
+                ∙ sym (append-assoc c (flat (y .front)) (y .last ++ y .tail));
             each = ((w, calm-goes (actIn R c) (x .0 .calm)), y .each);
             ends = y .ends;
             fits = simp length-append (omega (arith, y .fits, long, big, length-drop (4 + size s) s));

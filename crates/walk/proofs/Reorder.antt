@@ -4,7 +4,7 @@
 use mathlib.Core.Path.{_≡_, refl, sym, _∙_, ap, subst}
 use mathlib.Core.List.{List, [], _∷_, _++_, append-assoc, List·Permᴰ, List·Permᴰ·nil, List·Permᴰ·cons, List·Permᴰ·swap, List·Permᴰ·trans, Permᴰ·refl}
 use mathlib.Core.Bool.{Bool, true, false, _&&_, _||_, cond, true≢false, and-true, and-false}
-use Prim.Native.Nat.{ℕ, zero, suc, _+_, _≤_}
+use Prim.Native.Nat.{ℕ, suc, _+_, _≤_}
 use native.Mathlib.Omega.{arith}
 use lib.ListN.{length, length-append}
 use lib.Dec.{eqb}
@@ -95,7 +95,8 @@ module _ (R : Reader) where
   bodies-perm k (List·Permᴰ·swap {a = a} {b = b} {l = l} e₁ e₂) = rw (← e₁, ← e₂) (go (picked R k a) (picked R k b) (bodiesOf k l))
     where
       go : (t u : Bool) (r : List (List ℕ))
-          → List·Permᴰ (cond t (there a ∷ cond u (there b ∷ r) r) (cond u (there b ∷ r) r)) (cond u (there b ∷ cond t (there a ∷ r) r) (cond t (there a ∷ r) r))
+          → List·Permᴰ (cond t (there a ∷ cond u (there b ∷ r) r) (cond u (there b ∷ r) r))
+          (cond u (there b ∷ cond t (there a ∷ r) r) (cond t (there a ∷ r) r))
       go true true r = List·Permᴰ·swap refl refl
       go true false r = Permᴰ·refl (there a ∷ r)
       go false true r = Permᴰ·refl (there b ∷ r)
@@ -103,7 +104,8 @@ module _ (R : Reader) where
   bodies-perm k (List·Permᴰ·trans d₁ d₂) = List·Permᴰ·trans (bodies-perm k d₁) (bodies-perm k d₂)
 
   -- of a kind that may stand once there is at most one, and none where one was noted before
-  at-most : (k : ℕ) (seen : ℕ → Bool) (cs : List (List ℕ)) → R .once k ≡ true → Passed R seen cs → length (bodiesOf k cs) ≤ cond (seen k) 0 1
+  at-most : (k : ℕ) (seen : ℕ → Bool) (cs : List (List ℕ)) → R .once k ≡ true → Passed R seen cs
+      → length (bodiesOf k cs) ≤ cond (seen k) 0 1
   at-most k seen [] o h = omega arith
   at-most k seen (c ∷ cs) o h = go (noted R c) (eqb (kind c) k) (seen k) refl refl refl (at-most k (mark R seen c) cs o (h .1))
     where
@@ -117,13 +119,19 @@ module _ (R : Reader) where
   pub count-perm : {l m : List (List ℕ)} (k : ℕ) → List·Permᴰ l m → length (bodiesOf k l) ≡ length (bodiesOf k m)
   count-perm k d = length-perm (bodies-perm k d)
 
-  pub once-perm : {l m : List (List ℕ)} (k : ℕ) → R .once k ≡ true → List·Permᴰ l m → Passed R (λ j. false) l → bodiesOf k l ≡ bodiesOf k m
-  once-perm {l} k o d h = perm-one (bodies-perm k d) (at-most k (λ j. false) l o h)
+  pub once-perm : {l m : List (List ℕ)} (k : ℕ) (seen : ℕ → Bool) → R .once k ≡ true → List·Permᴰ l m → Passed R seen l
+      → bodiesOf k l ≡ bodiesOf k m
+  once-perm {l} k seen o d h = perm-one (bodies-perm k d) (go (seen k) (at-most k seen l o h))
+    where
+      go : (t : Bool) → length (bodiesOf k l) ≤ cond t 0 1 → length (bodiesOf k l) ≤ 1
+      go true i = omega arith
+      go false i = i
 
   -- ---- one record more, that is passed over
 
   module _ (u : List ℕ) (over : actIn R u ≡ passes) where
-    pub passed-insert : (seen : ℕ → Bool) (xs ys : List (List ℕ)) → faultIn R u ≡ 0 → Passed R seen (xs ++ ys) → Passed R seen (xs ++ (u ∷ ys))
+    pub passed-insert : (seen : ℕ → Bool) (xs ys : List (List ℕ)) → faultIn R u ≡ 0 → Passed R seen (xs ++ ys)
+        → Passed R seen (xs ++ (u ∷ ys))
     passed-insert seen [] ys f h = (
       record { faultless = f; calm = ap isCalm over; alone = rw over },
       subst (λ (a : Act). Passed R (λ k. (isNotes a && eqb (kind u) k) || seen k) ys) (sym over) h,

@@ -1,0 +1,221 @@
+-- Demand 3 for every reader and judge that keep two laws: records in another order, a record more that is passed over, and one that is
+-- refused.
+-- Assumes nothing.
+use mathlib.Core.Path.{_≡_, refl, sym, _∙_, ap}
+use mathlib.Core.List.{List, [], _∷_, _++_, map, append-assoc, List·Permᴰ}
+use mathlib.Core.Bool.{Bool, true, false, _&&_, _||_, cond}
+use Prim.Native.Nat.{ℕ, _+_, _-_, _≤_}
+use native.Mathlib.Omega.{arith}
+use native.Mathlib.Nat.{zero-add}
+use lib.ListN.{length, take, drop, length-take, take-append-drop}
+use lib.Seq.{drop-drop, drop-at}
+use lib.Dec.{eqb}
+use Rattle.nts.specs.Refusal.{Beside}
+use Rattle.record.specs.Record.{kind, there}
+use Rattle.walk.specs.Walk.{ends, passes, refuses, Reader, faultIn, actIn, Sighting, Outcome, stopped, ended, stops, meet, judge, step, walk}
+use Rattle.walk.specs.Judge.{Verdict, no, yes, Judge, ofKind, bodyIn, refused, accepted, placed, finish, readBy}
+use Rattle.walk.specs.Message.{Whole, Each, flat, message, Parts, contents, Shows}
+use Rattle.walk.proofs.Chunks.{size-append, there-append, each-map, unroll-chunk, walk-run}
+use Rattle.walk.proofs.Passing.{reached, isCalm, calm-goes, sightingAt, seenIn, noted, Passed, sightingsIn, run-passed, take-over, Inner, Last, reached-passed, split}
+use Rattle.walk.proofs.Reorder.{passed-perm, bodiesOf, count-perm, once-perm, passed-insert, bodies-insert, passed-front}
+use Rattle.walk.proofs.Reorder.{each-perm, each-insert, each-front, flat-perm}
+
+-- ---- what is asked of a reader and its judge
+
+abbrev pub mapVerdict : (D : Judge) {A B : Type 0} → (A → B) → Verdict (D .Q) A → Verdict (D .Q) B
+mapVerdict D f (no n b) = no n b
+mapVerdict D f (yes q) = yes (D .mapQ f q)
+
+-- kinds of which a reordering keeps the order: cookies and denied names
+abbrev pub keeps : ℕ → Bool
+keeps k = eqb k 5 || eqb k 13
+
+pub record Lawful (R : Reader) (D : Judge) : Type 1 where
+  -- the verdict is over the bodies, whatever stands for them
+  pub natural : {A : Type 0} (f : A → List ℕ) (l : ℕ → List A)
+      → mapVerdict D f (D .decide f l) ≡ D .decide (λ (b : List ℕ). b) (λ k. map f (l k))
+  -- it is the same for the same bodies of each kind that may stand once or keeps its order, and as many of every other
+  pub stable : (l l′ : ℕ → List (List ℕ)) → ((k : ℕ) → (R .once k || keeps k) ≡ true → l k ≡ l′ k)
+      → ((k : ℕ) → length (l k) ≡ length (l′ k)) → D .decide (λ (b : List ℕ). b) l ≡ D .decide (λ (b : List ℕ). b) l′
+
+-- ---- the parts noted are the records' bodies
+
+body-chunk : (m c r : List ℕ) (at : ℕ) → Whole c → drop at m ≡ c ++ r → bodyIn m (sightingAt at c) ≡ there c
+unfolding there
+body-chunk m c r at w e =
+    rw (← drop-drop 4 at m, e) (ap (λ (n : ℕ). take n (drop 4 (c ++ r))) (sym (size-append c r (omega arith))) ∙ there-append c r w)
+
+module _ (R : Reader) (m r : List ℕ) (k : ℕ) where
+  bodies-noted : (at : ℕ) (cs : List (List ℕ)) → Each Whole cs → drop at m ≡ flat cs ++ r
+      → map (bodyIn m) (ofKind k (sightingsIn R at cs)) ≡ bodiesOf R k cs
+  bodies-noted at [] w e = refl
+  bodies-noted at (c ∷ cs) w e = by-act (noted R c) (bodies-noted (at + length c) cs (w .1) next)
+    where
+      here : drop at m ≡ c ++ (flat cs ++ r)
+      here = rw append-assoc at e
+
+      next : drop (at + length c) m ≡ flat cs ++ r
+      next = sym (drop-drop (length c) at m) ∙ ap (drop (length c)) here ∙ drop-at c (flat cs ++ r) (length c) refl
+
+      rest : List Sighting
+      rest = sightingsIn R (at + length c) cs
+
+      by-kind : (u : Bool) (l : List Sighting) → map (bodyIn m) l ≡ bodiesOf R k cs
+          → map (bodyIn m) (cond u (sightingAt at c ∷ l) l) ≡ cond u (there c ∷ bodiesOf R k cs) (bodiesOf R k cs)
+      by-kind true l i = cc (body-chunk m c (flat cs ++ r) at (w .0) here)
+      by-kind false l i = i
+
+      by-act : (t : Bool) → map (bodyIn m) (ofKind k rest) ≡ bodiesOf R k cs
+          → map (bodyIn m) (ofKind k (cond t (sightingAt at c ∷ rest) rest))
+          ≡ cond (t && eqb (kind c) k) (there c ∷ bodiesOf R k cs) (bodiesOf R k cs)
+      by-act true i = by-kind (eqb (kind c) k) (ofKind k rest) i
+      by-act false i = i
+
+-- ---- a walk over records that it passes, and one with which it stops, within the limit
+
+-- what is cut off behind them is not looked at
+fit : (n : ℕ) (f x t : List ℕ) → length f + length x ≤ n → take n (f ++ (x ++ t)) ≡ f ++ (x ++ take (n - length f - length x) t)
+fit n f x t h = take-over n f (x ++ t) (omega arith) ∙ ap (λ (s : List ℕ). f ++ s) (take-over (n - length f) x t (omega arith))
+
+wholes : (R : Reader) (cs : List (List ℕ)) → Each (Inner R) cs → Each Whole cs
+wholes R = each-map (λ c i. i .0)
+
+module _ (R : Reader) where
+  walk-stops : (n : ℕ) (cs : List (List ℕ)) (x t : List ℕ) (o : Outcome) → Each (Inner R) cs → Passed R (seenIn []) cs → Whole x
+      → length (flat cs) + length x ≤ n → step R (sightingsIn R 0 cs) (length (flat cs)) x ≡ stops o
+      → walk R [] 0 0 (take n (message cs x t)) ≡ o
+  walk-stops n cs x t o i p w f h =
+      let t′ = take (n - length (flat cs) - length x) t in
+      rw (fit n (flat cs) x t f, walk-run R (x ++ t′) [] 0 cs (wholes R cs i), run-passed R [] 0 cs p, zero-add)
+      (unroll-chunk x t′ w R (sightingsIn R 0 cs) (length (flat cs)) ∙ rw h)
+
+  module _ (st : List Sighting) (at : ℕ) where
+    step-last : (e : List ℕ) → Last R e → step R st at e ≡ stops (ended at (at + length e) st)
+    unfolding step judge meet
+    step-last e l = rw (l .1, l .2, l .0)
+
+    step-refused : (n : ℕ) (b : Beside) (u : List ℕ) → faultIn R u ≡ 0 → actIn R u ≡ refuses n b
+        → step R st at u ≡ stops (stopped (record { number = n; beside = b; place = at }))
+    unfolding step judge meet
+    step-refused n b u f a = rw (f, a)
+
+-- ---- a message that is accepted
+
+pub accepted-reached : (R : Reader) (D : Judge) (m : List ℕ) (n : ℕ) (q : D .Q Sighting) → readBy R D m n ≡ accepted q
+    → reached (walk R [] 0 0 (take n m)) ≡ true
+unfolding readBy finish
+accepted-reached R D m n q h = go (walk R [] 0 0 (take n m)) h
+  where
+    go : (o : Outcome) → finish D m o ≡ accepted q → reached o ≡ true
+    go (stopped r) g = cc
+    go (ended at next st) g = refl
+
+-- it is whole records that do not end it, one that does, within the limit, and a tail
+pub accepted-parts : (R : Reader) (D : Judge) (m : List ℕ) (n : ℕ) (q : D .Q Sighting) → readBy R D m n ≡ accepted q
+    → Parts (Inner R) (Last R) m n
+accepted-parts R D m n q h = record {
+  front = p .front;
+  last = p .last;
+  tail = p .tail ++ drop n m;
+  joined = sym (take-append-drop n m) ∙ ap (λ (s : List ℕ). s ++ drop n m) (p .joined) ∙ simp append-assoc;
+  each = p .each;
+  ends = p .ends;
+  fits = omega (arith, p .fits, length-take n m);
+}
+  where
+    p : Parts (Inner R) (Last R) (take n m) (length (take n m))
+    p = split R [] 0 (take n m) (accepted-reached R D m n q h)
+
+module _ (R : Reader) (D : Judge) (L : Lawful R D) where
+  -- what is decided from the records alone
+  pub shown : List (List ℕ) → Verdict (D .Q) (List ℕ)
+  shown cs = D .decide (λ (b : List ℕ). b) (λ k. bodiesOf R k cs)
+
+  -- what is asked of records and an end record, to be accepted under a limit and to show x
+  pub record Good (n : ℕ) (cs : List (List ℕ)) (e : List ℕ) (x : D .Q (List ℕ)) : Type 0 where
+    pub inner : Each (Inner R) cs
+    pub last : Last R e
+    pub passed : Passed R (seenIn []) cs
+    pub fits : length (flat cs) + length e ≤ n
+    pub shows : shown cs ≡ yes x
+
+  module _ (n : ℕ) (cs : List (List ℕ)) (e t : List ℕ) (inner : Each (Inner R) cs) (last : Last R e) where
+    abbrev m : List ℕ
+    m = message cs e t
+
+    abbrev verdict : Verdict (D .Q) Sighting
+    verdict = D .decide (bodyIn m) (λ k. ofKind k (sightingsIn R 0 cs))
+
+    verdict-shown : mapVerdict D (bodyIn m) verdict ≡ shown cs
+    unfolding shown
+    verdict-shown =
+        L .natural (bodyIn m) (λ k. ofKind k (sightingsIn R 0 cs))
+        ∙ ap (D .decide (λ (b : List ℕ). b)) (λ j k. bodies-noted R m (e ++ t) k 0 cs (wholes R cs inner) refl j)
+
+    read-verdict : Passed R (seenIn []) cs → length (flat cs) + length e ≤ n → readBy R D m n ≡ placed (length (flat cs)) verdict
+    unfolding readBy finish
+    read-verdict p f =
+        let s = step-last R (sightingsIn R 0 cs) (length (flat cs)) e last in
+        rw (walk-stops R n cs e t _ inner p (last .0) f s)
+
+    pub accepted-good : (q : D .Q Sighting) → readBy R D m n ≡ accepted q → Good n cs e (contents D m q)
+    accepted-good q h =
+        let r = reached-passed R [] 0 n cs e t inner (last .0) (accepted-reached R D m n q h) in
+        let v : verdict ≡ yes q = placed-yes verdict (sym (read-verdict (r .1) (r .0)) ∙ h) in
+        let s : shown cs ≡ yes (contents D m q) = sym verdict-shown ∙ ap (mapVerdict D (bodyIn m)) v in
+        record { inner = inner; last = last; passed = r .1; fits = r .0; shows = s }
+      where
+        placed-yes : (v : Verdict (D .Q) Sighting) → placed (length (flat cs)) v ≡ accepted q → v ≡ yes q
+        placed-yes (no k b) g = cc
+        placed-yes (yes q′) g = cc
+
+  module _ (n : ℕ) (e : List ℕ) (x : D .Q (List ℕ)) where
+    pub good-shows : (cs : List (List ℕ)) (t : List ℕ) → Good n cs e x → Shows R D (message cs e t) n x
+    good-shows cs t g =
+        let v = verdict n cs e t (g .inner) (g .last) in
+        go v (read-verdict n cs e t (g .inner) (g .last) (g .passed) (g .fits)) (verdict-shown n cs e t (g .inner) (g .last) ∙ g .shows)
+      where
+        go : (v : Verdict (D .Q) Sighting) → readBy R D (message cs e t) n ≡ placed (length (flat cs)) v
+            → mapVerdict D (bodyIn (message cs e t)) v ≡ yes x → Shows R D (message cs e t) n x
+        go (no k b) a h = let z : _≡_ {A = ℕ} 0 1 = cc in absurd (omega arith)
+        go (yes q) a h = (q, a, cc)
+
+    -- ---- records in another order
+
+    pub reorder : (cs cs′ : List (List ℕ)) → List·Permᴰ cs cs′ → ((k : ℕ) → keeps k ≡ true → bodiesOf R k cs ≡ bodiesOf R k cs′)
+        → Good n cs e x → Good n cs′ e x
+    unfolding shown
+    reorder cs cs′ d kept g =
+        record {
+          inner = each-perm (Inner R) d (g .inner);
+          last = g .last;
+          passed = passed-perm R (seenIn []) d (g .passed);
+          fits = omega (arith, flat-perm d, g .fits);
+          shows = sym (L .stable _ _ (λ k b. same k (R .once k) refl b) (λ k. count-perm R k d)) ∙ g .shows;
+        }
+      where
+        same : (k : ℕ) (b : Bool) → R .once k ≡ b → (b || keeps k) ≡ true → bodiesOf R k cs ≡ bodiesOf R k cs′
+        same k true o h = once-perm R k (seenIn []) o d (g .passed)
+        same k false o h = kept k h
+
+    -- ---- a record more, which is passed over or refused
+
+    module _ (xs ys : List (List ℕ)) (u : List ℕ) (whole : Whole u) (faultless : faultIn R u ≡ 0) (g : Good n (xs ++ ys) e x) where
+      pub insert-passed : actIn R u ≡ passes → length (flat (xs ++ (u ∷ ys))) + length e ≤ n → Good n (xs ++ (u ∷ ys)) e x
+      unfolding shown
+      insert-passed a f =
+          record {
+            inner = each-insert (Inner R) u xs ys (whole, calm-goes (actIn R u) (ap isCalm a)) (g .inner);
+            last = g .last;
+            passed = passed-insert R u a (seenIn []) xs ys faultless (g .passed);
+            fits = f;
+            shows = ap (D .decide (λ (b : List ℕ). b)) (λ j k. bodies-insert R u a k xs ys j) ∙ g .shows;
+          }
+
+      pub insert-refused : (k : ℕ) (b : Beside) (t : List ℕ) → actIn R u ≡ refuses k b → length (flat xs) + length u ≤ n
+          → readBy R D (message xs u t) n ≡ refused (record { number = k; beside = b; place = length (flat xs) })
+      unfolding readBy finish
+      insert-refused k b t a f =
+          let i = each-front (Inner R) xs ys (g .inner) in
+          let p = passed-front R (seenIn []) xs ys (g .passed) in
+          rw (walk-stops R n xs u t _ i p whole f (step-refused R (sightingsIn R 0 xs) (length (flat xs)) k b u faultless a))
