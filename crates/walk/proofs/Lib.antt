@@ -4,3 +4,4 @@ pub mod Faultless
 pub mod Passing
 pub mod Reorder
 pub mod Laws
+pub mod Demand3
