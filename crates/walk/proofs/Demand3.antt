@@ -4,15 +4,14 @@
 -- Assumes nothing.
 use mathlib.Core.Path.{_≡_, refl, sym, _∙_, ap, subst}
 use mathlib.Core.List.{List, [], _∷_, _++_, append-assoc, List·Permᴰ}
-use mathlib.Core.Bool.{Bool, true, false, _||_, cond, true≢false, and-false}
+use mathlib.Core.Bool.{Bool, true, false, _||_, cond, and-false}
 use Prim.Native.Nat.{ℕ, _+_, _≤_}
 use native.Mathlib.Omega.{arith}
 use lib.ListN.{length, length-append}
 use lib.Dec.{eqb}
-use borrow.Author.Tests.{eqb-true, ne-eqb}
+use borrow.Author.Tests.{eqb-true}
 use Rattle.nts.specs.Refusal.{nothing}
 use Rattle.record.specs.Record.{kind, critical, there, shapeOf}
-use Rattle.record.specs.declared.Shape.the-variants.{Unknown}
 use Rattle.walk.specs.Walk.{Act, ends, passes, refuses, Reader, faultIn, actIn, Sighting}
 use Rattle.walk.specs.Judge.{Judge, refused, accepted, readBy}
 use Rattle.walk.specs.Message.{Whole, Record, End, Each, recordsOf, flat, message, Parts, contents, Shows}
@@ -21,30 +20,10 @@ use Rattle.walk.proofs.Chunks.{each-map}
 use Rattle.walk.proofs.Faultless.{skipped, unknown, whole-faultless}
 use Rattle.walk.proofs.Passing.{noted, Inner, Last}
 use Rattle.walk.proofs.Reorder.{bodiesOf, flat-append}
+use Rattle.walk.proofs.Known.{unknown-shape}
 use Rattle.walk.proofs.Laws.{keeps, Lawful, accepted-parts, Good, accepted-good, good-shows, reorder, insert-passed, insert-refused}
 
--- ---- kinds
-
-unknown-shape : (k : ℕ) → known k ≡ false → shapeOf k ≡ Unknown
-unfolding known shapeOf
-unknown-shape k h =
-    let other : (j : ℕ) → known j ≡ true → eqb k j ≡ false = λ j t. ne-eqb k j (λ e. true≢false (sym t ∙ ap known (sym e) ∙ h)) in
-    simp (
-      other 0 refl,
-      other 1 refl,
-      other 2 refl,
-      other 3 refl,
-      other 4 refl,
-      other 5 refl,
-      other 6 refl,
-      other 7 refl,
-      other 8 refl,
-      other 9 refl,
-      other 10 refl,
-      other 12 refl,
-      other 13 refl,
-      other 14 refl,
-    )
+-- ---- cookies and denied names
 
 by-keeps : (k : ℕ) (X : ℕ → Type 0) → keeps k ≡ true → X 5 → X 13 → X k
 by-keeps k X s cookies names = go (eqb k 5) refl s
@@ -63,27 +42,42 @@ bodies-records R k (c ∷ cs) = go (eqb (kind c) k) refl (bodies-records R k cs)
     go true q i = rw i
     go false q i = rw (q, and-false (noted R c)) i
 
--- ---- every reader that is a table, so long as kind 0 alone ends
+-- ---- every reader that is a table f over the known kinds, which ends no message itself: kind 0 does
 
 module _ (f : ℕ → List ℕ → Act) (once : ℕ → Bool) (goes : (k : ℕ) (b : List ℕ) → f k b ≡ ends → ⊥) where
   abbrev R : Reader
   R = tableReader f once
 
+  known-act : (c : List ℕ) → known (kind c) ≡ true → actIn R c ≡ cond (eqb (kind c) 0) ends (f (kind c) (there c))
+  unfolding actIn actBy
+  known-act c k = rw k
+
+  unknown-act : (u : List ℕ) → known (kind u) ≡ false → actIn R u ≡ cond (critical u) (refuses 3 nothing) passes
+  unfolding actIn actBy
+  unknown-act u k = rw k
+
+  unknown-faultless : (u : List ℕ) → known (kind u) ≡ false → Whole u → faultIn R u ≡ 0
+  unknown-faultless u k w = whole-faultless R u (rw (unknown-shape (kind u) k) unknown) w
+
   -- kind 0 ends a message, and no other
   zero-ends : (c : List ℕ) → kind c ≡ 0 → actIn R c ≡ ends
-  unfolding actIn actBy known
-  zero-ends c z = rw z
+  unfolding known
+  zero-ends c z = known-act c (ap known z) ∙ rw z
 
   ends-zero : (c : List ℕ) → actIn R c ≡ ends → kind c ≡ 0
-  unfolding actIn actBy
-  ends-zero c h = go (known (kind c)) (eqb (kind c) 0) (critical c) refl h
+  ends-zero c h = go (known (kind c)) refl
     where
-      go : (a z b : Bool) → eqb (kind c) 0 ≡ z → cond a (cond z ends (f (kind c) (there c))) (cond b (refuses 3 nothing) passes) ≡ ends
-          → kind c ≡ 0
-      go true true b e g = eqb-true (kind c) 0 e
-      go true false b e g = absurd (goes (kind c) (there c) g)
-      go false z true e g = cc
-      go false z false e g = cc
+      of-known : (z : Bool) → eqb (kind c) 0 ≡ z → cond z ends (f (kind c) (there c)) ≡ ends → kind c ≡ 0
+      of-known true e g = eqb-true (kind c) 0 e
+      of-known false e g = absurd (goes (kind c) (there c) g)
+
+      of-unknown : (b : Bool) → cond b (refuses 3 nothing) passes ≡ ends → kind c ≡ 0
+      of-unknown true g = cc
+      of-unknown false g = cc
+
+      go : (t : Bool) → known (kind c) ≡ t → kind c ≡ 0
+      go true k = of-known (eqb (kind c) 0) refl (sym (known-act c k) ∙ h)
+      go false k = of-unknown (critical c) (sym (unknown-act c k) ∙ h)
 
   inner-of : (c : List ℕ) → Record c → Inner R c
   inner-of c r = (r .0, λ h. r .1 (ends-zero c h))
@@ -98,15 +92,7 @@ module _ (f : ℕ → List ℕ → Act) (once : ℕ → Bool) (goes : (k : ℕ) 
   of-last : (e : List ℕ) → Last R e → End e
   of-last e l = (l .0, ends-zero e (l .2))
 
-  -- an unknown kind
-  module _ (u : List ℕ) (strange : known (kind u) ≡ false) where
-    unknown-act : (b : Bool) → critical u ≡ b → actIn R u ≡ cond b (refuses 3 nothing) passes
-    unfolding actIn actBy
-    unknown-act b c = rw (strange, c)
-
-    unknown-faultless : Whole u → faultIn R u ≡ 0
-    unknown-faultless w = whole-faultless R u (rw (unknown-shape (kind u) strange) unknown) w
-
+  -- each message that is accepted is records, an end record through which it fits the limit, and a tail of any bytes
   pub accepted-is : (D : Judge) (m : List ℕ) (n : ℕ) (q : D .Q Sighting) → readBy R D m n ≡ accepted q → Parts Record End m n
   accepted-is D m n q h = record {
     front = p .front;
@@ -127,6 +113,7 @@ module _ (f : ℕ → List ℕ → Act) (once : ℕ → Bool) (goes : (k : ℕ) 
         → Good R D L n cs e (contents D (message cs e t) q)
     good cs e t q i l h = accepted-good R D L n cs e t (each-map inner-of cs i) (last-of e l) q h
 
+    -- the records before the end record in another order, denied names keeping theirs and cookies theirs; any other tail
     pub reordered : (cs cs′ : List (List ℕ)) (e t t′ : List ℕ) (q : D .Q Sighting) → Each Record cs → End e → List·Permᴰ cs cs′
         → recordsOf 13 cs ≡ recordsOf 13 cs′ → recordsOf 5 cs ≡ recordsOf 5 cs′ → readBy R D (message cs e t) n ≡ accepted q
         → Shows R D (message cs′ e t′) n (contents D (message cs e t) q)
@@ -139,14 +126,16 @@ module _ (f : ℕ → List ℕ → Act) (once : ℕ → Bool) (goes : (k : ℕ) 
         kept : (k : ℕ) → keeps k ≡ true → bodiesOf R k cs ≡ bodiesOf R k cs′
         kept k s = by-keeps k (λ (j : ℕ). bodiesOf R j cs ≡ bodiesOf R j cs′) s (same 5 cookies) (same 13 names)
 
+    -- a whole record of unknown kind, its bit clear, just before any record up to the end, if the message through its end still fits
     pub inserted : (xs ys : List (List ℕ)) (u e t t′ : List ℕ) (q : D .Q Sighting) → Each Record (xs ++ ys) → End e
         → Whole u → known (kind u) ≡ false → critical u ≡ false → length (flat (xs ++ (u ∷ ys))) + length e ≤ n
         → readBy R D (message (xs ++ ys) e t) n ≡ accepted q
         → Shows R D (message (xs ++ (u ∷ ys)) e t′) n (contents D (message (xs ++ ys) e t) q)
     inserted xs ys u e t t′ q i l w k c f h =
         let g = good (xs ++ ys) e t q i l h in
-        good-shows R D L n e _ (xs ++ (u ∷ ys)) t′ (insert-passed R D L n e _ xs ys u w (unknown-faultless u k w) g (unknown-act u k false c) f)
+        good-shows R D L n e _ (xs ++ (u ∷ ys)) t′ (insert-passed R D L n e _ xs ys u w (unknown-faultless u k w) g (unknown-act u k ∙ rw c) f)
 
+    -- with the bit set, under that condition: refusal 3, at that record
     pub inserted-critical : (xs ys : List (List ℕ)) (u e t t′ : List ℕ) (q : D .Q Sighting) → Each Record (xs ++ ys) → End e
         → Whole u → known (kind u) ≡ false → critical u ≡ true → length (flat (xs ++ (u ∷ ys))) + length e ≤ n
         → readBy R D (message (xs ++ ys) e t) n ≡ accepted q
@@ -156,4 +145,4 @@ module _ (f : ℕ → List ℕ → Act) (once : ℕ → Bool) (goes : (k : ℕ) 
         let j = flat-append xs (u ∷ ys) in
         let fits : length (flat xs) + length u ≤ n = omega (arith, simp length-append at (ap length j)) in
         rw (j, append-assoc, append-assoc u (flat ys) (e ++ t′))
-        (insert-refused R D L n e _ xs ys u w (unknown-faultless u k w) g 3 nothing (message ys e t′) (unknown-act u k true c) fits)
+        (insert-refused R D L n e _ xs ys u w (unknown-faultless u k w) g 3 nothing (message ys e t′) (unknown-act u k ∙ rw c) fits)

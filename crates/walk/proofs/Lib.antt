@@ -4,4 +4,5 @@ pub mod Faultless
 pub mod Passing
 pub mod Reorder
 pub mod Laws
+pub mod Known
 pub mod Demand3
