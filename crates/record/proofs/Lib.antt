@@ -4,3 +4,4 @@ pub mod Entry
 pub mod Writing
 pub mod Apart
 pub mod Same
+pub mod Inverse

@@ -6,3 +6,4 @@ pub mod Reorder
 pub mod Laws
 pub mod Known
 pub mod Demand3
+pub mod Noted

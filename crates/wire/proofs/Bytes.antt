@@ -7,7 +7,7 @@ use native.Mathlib.Nat.{add-sub-cancel-left, sub-self}
 use native.Mathlib.Omega.{arith}
 use borrow.Author.Tests.{le-leb, lt-leb}
 use lib.ListN.{length, getD, take, drop, length-drop, List·getD-eq-default}
-use lib.Seq.{getD-drop, length-take-le}
+use lib.Seq.{getD-take, getD-drop, length-take-le}
 use Rattle.wire.specs.Bytes.{numberAt, partAt}
 
 -- past the end both bytes read as 0
@@ -22,6 +22,11 @@ number-past s at h =
 pub number-drop : (s : List ℕ) (at i : ℕ) → numberAt (drop at s) i ≡ numberAt s (at + i)
 unfolding numberAt
 number-drop s at i = rw (getD-drop, getD-drop) (ap (λ (n : ℕ). getD s (at + i) 0 * 256 + getD s n 0) (omega arith))
+
+-- a number inside what is taken is the number itself
+pub number-take : (s : List ℕ) (n i : ℕ) → i + 1 < n → numberAt (take n s) i ≡ numberAt s i
+unfolding numberAt
+number-take s n i h = rw (getD-take n s i 0 (omega arith), getD-take n s (i + 1) 0 h)
 
 -- no bytes from any place are what a part that is not inside is
 pub part-none : (s : List ℕ) (i start n : ℕ) → length s < start + n → take (i - i) (drop i s) ≡ partAt s start n

@@ -1,0 +1,7 @@
+pub mod Deciding
+pub mod Names
+pub mod Meeting
+pub mod Going
+pub mod Filling
+pub mod Decided
+pub mod Answering

@@ -1,0 +1,159 @@
+-- A request: 01, "From records to a request".
+use Prim.Native.Nat.{ℕ, _+_, _*_, _/_}
+use mathlib.Core.Path.{_≡_}
+use mathlib.Core.List.{List, [], _∷_, map}
+use mathlib.Core.Bool.{Bool, true, false, cond, not, _&&_, _||_}
+use lib.ListN.{length, getD}
+use lib.Dec.{ltb, eqb}
+use Rattle.wire.specs.Bytes.{numberAt, partAt}
+use Rattle.wire.specs.Over.{over}
+use Rattle.nts.specs.Refusal.{nothing, code, Refused, toldRefusal}
+use Rattle.nts.specs.Algorithm.{Described, known, unknown, describe}
+use Rattle.record.specs.declared.Part.{Part}
+use Rattle.walk.specs.Walk.{Act, passes, notes, refuses, Reader, Sighting}
+use Rattle.walk.specs.Judge as judge
+use Rattle.walk.specs.Judge.{Verdict, no, yes, Judge, bodyIn, readBy}
+use Rattle.walk.specs.Table.{tableReader}
+use Rattle.request.specs.declared.Request.{Request}
+use Rattle.request.specs.declared.Request.the-variants.{KeyExchange, FixedKey, Support}
+use Rattle.request.specs.declared.Answer.{Answer}
+use Rattle.request.specs.declared.Answer.the-variants.{Accepted}
+use Rattle.request.specs.declared.Answer.the-variants as answer
+
+-- ---- in record order
+
+-- error, warning and cookie are 4; server and port are passed over; any other known record is noted
+unfoldable pub act : ℕ → List ℕ → Act
+act k b = cond (eqb k 2 || eqb k 3 || eqb k 5) (refuses 4 nothing) (cond (eqb k 6 || eqb k 7) passes notes)
+
+-- a second protocol list, algorithm list, key record, supported list of one sort or authentication is 4
+unfoldable pub once : ℕ → Bool
+once k = eqb k 1 || eqb k 4 || eqb k 9 || eqb k 10 || eqb k 12 || eqb k 14
+
+abbrev pub reader : Reader
+reader = tableReader act once
+
+-- ---- after the end
+
+-- an accepted request, over what stands for a body
+pub data Form (A : Type 0) : Type 0 where
+  -- protocols, algorithms, and the denied names in message order
+  keyExchange : A → A → List A → Form A
+  -- authentication, keys, the algorithm's list, the protocol's list, and keep-alive
+  fixedKey : A → A → A → A → Bool → Form A
+  -- authentication, whether protocols and algorithms are wanted, and keep-alive
+  support : A → Bool → Bool → Bool → Form A
+
+abbrev pub mapForm : {A B : Type 0} → (A → B) → Form A → Form B
+mapForm f (keyExchange p a d) = keyExchange (f p) (f a) (map f d)
+mapForm f (fixedKey u x a p k) = fixedKey (f u) (f x) (f a) (f p) k
+mapForm f (support u p a k) = support (f u) p a k
+
+-- a record of a kind is there
+abbrev pub some : {A : Type 0} → List A → Bool
+some [] = false
+some (x ∷ l) = true
+
+-- it is missing: z; otherwise by the first
+abbrev pub withFirst : {A B : Type 0} → List A → B → (A → B) → B
+withFirst [] z f = z
+withFirst (x ∷ l) z f = f x
+
+-- algorithm 15 needs halves of 32 bytes and 17 halves of 64, otherwise 6; another algorithm is 5, with its number
+unfoldable pub keyed : {A : Type 0} → Described → ℕ → ℕ → Form A → Verdict Form A
+keyed unknown n half f = no 5 (code n)
+keyed (known m size) n half f = cond (eqb half size) (yes f) (no 6 nothing)
+
+-- 2. each list of one entry, otherwise 4; then the algorithm and the keys
+unfoldable pub fixedBy : {A : Type 0} → (A → List ℕ) → A → A → A → A → Bool → Verdict Form A
+fixedBy val u x a p k =
+    cond (eqb (length (val p)) 2 && eqb (length (val a)) 2)
+    (keyed (describe (numberAt (val a) 0)) (numberAt (val a) 0) (length (val x) / 2) (fixedKey u x a p k))
+    (no 4 nothing)
+
+unfoldable pub decide : ℕ → {A : Type 0} → (A → List ℕ) → (ℕ → List A) → Verdict Form A
+decide room val l =
+    -- 1. with either supported list: authentication, and no key, protocol or algorithm record
+    cond (some (l 9) || some (l 10))
+    (withFirst (l 14) (no 4 nothing)
+    (λ u. cond (some (l 12) || some (l 1) || some (l 4)) (no 4 nothing) (yes (support u (some (l 9)) (some (l 10)) (some (l 8))))))
+    -- 2. with keys: authentication and both lists
+    (withFirst (l 12)
+    -- 3. otherwise both lists, even empty ones; then 7 if there are more denied names than room
+    (withFirst (l 1) (no 4 nothing)
+    (λ p. withFirst (l 4) (no 4 nothing)
+    (λ a. cond (ltb room (length (l 13))) (no 7 nothing) (yes (keyExchange p a (l 13))))))
+    (λ x. withFirst (l 14) (no 4 nothing)
+    (λ u. withFirst (l 1) (no 4 nothing)
+    (λ p. withFirst (l 4) (no 4 nothing)
+    (λ a. fixedBy val u x a p (some (l 8)))))))
+
+abbrev pub judgeBy : ℕ → Judge
+judgeBy room = record { Q = Form; mapQ = λ {A} {B} f q. mapForm f q; decide = λ {A} val l. decide room val l }
+
+-- a message m read as if it were cut after n bytes, with a table that has room for so many names
+unfoldable pub request : List ℕ → ℕ → ℕ → judge.Answer Form
+request m n room = readBy reader (judgeBy room) m n
+
+-- ---- what is answered
+
+pub data Told : Type 0 where
+  keyExchangeIs : Part → Part → ℕ → Told
+  fixedKeyIs : Part → Part → Part → ℕ → ℕ → Bool → Told
+  supportIs : Part → Bool → Bool → Bool → Told
+  refusedWith : Refused → Told
+
+-- bodies, names and keys are parts of the message
+abbrev pub partOf : Sighting → Part
+partOf x = record { start = x .start; len = x .len }
+
+-- a key record's halves, client to server first
+abbrev pub firstHalf : Sighting → Part
+firstHalf x = record { start = x .start; len = x .len / 2 }
+
+abbrev pub secondHalf : Sighting → Part
+secondHalf x = record { start = x .start + x .len / 2; len = x .len / 2 }
+
+abbrev pub toldForm : List ℕ → Form Sighting → Told
+toldForm m (keyExchange p a d) = keyExchangeIs (partOf p) (partOf a) (length d)
+toldForm m (fixedKey u x a p k) = fixedKeyIs (partOf u) (firstHalf x) (secondHalf x) (numberAt (bodyIn m a) 0) (numberAt (bodyIn m p) 0) k
+toldForm m (support u p a k) = supportIs (partOf u) p a k
+
+abbrev pub toldBy : List ℕ → judge.Answer Form → Told
+toldBy m (judge.refused r) = refusedWith r
+toldBy m (judge.accepted q) = toldForm m q
+
+-- what each case of the answer says
+abbrev pub toldRequest : Request → Told
+toldRequest (KeyExchange p a d) = keyExchangeIs p a d
+toldRequest (FixedKey u c s a p k) = fixedKeyIs u c s (a .0) (p .0) k
+toldRequest (Support u p a k) = supportIs u p a k
+
+abbrev pub toldAnswer : Answer → Told
+toldAnswer (Accepted q) = toldRequest q
+toldAnswer (answer.Refused r) = refusedWith (toldRefusal r)
+
+-- ---- the table of names: two cells a name, start and length, in message order
+
+abbrev pub cells : List Sighting → List ℕ
+cells [] = []
+cells (x ∷ d) = x .start ∷ x .len ∷ cells d
+
+-- only an accepted key-exchange request writes any
+abbrev pub namesOf : judge.Answer Form → List Sighting
+namesOf (judge.refused r) = []
+namesOf (judge.accepted (keyExchange p a d)) = d
+namesOf (judge.accepted (fixedKey u x a p k)) = []
+namesOf (judge.accepted (support u p a k)) = []
+
+unfoldable pub tableAfter : judge.Answer Form → List ℕ → List ℕ
+tableAfter x table = over (cells (namesOf x)) table
+
+-- the name at an index of a table, as part of the message; a cell that is not there counts as 0
+unfoldable pub nameIn : List ℕ → List ℕ → ℕ → List ℕ
+nameIn m table i = partAt m (getD table (2 * i) 0) (getD table (2 * i + 1) 0)
+
+-- the reader's contract: what it answers, and the table afterwards
+pub record Reads (m : List ℕ) (n : ℕ) (table : List ℕ) (r : Answer) (table′ : List ℕ) : Type 0 where
+  pub says : toldAnswer r ≡ toldBy m (request m n (length table / 2))
+  pub left : table′ ≡ tableAfter (request m n (length table / 2)) table
