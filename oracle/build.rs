@@ -1,5 +1,6 @@
 //! Makes the stand-in for the crate's module `nts`: the needed items of its mod.rs, cut out by line number, and its
-//! files record.rs and messages.rs, which are compiled where they stand.
+//! files record.rs and messages.rs, which are compiled where they stand. Beside them a copy of messages.rs, in which one
+//! constant is raised.
 
 use std::{env, fs, path::PathBuf};
 
@@ -9,6 +10,10 @@ const ITEMS: [(usize, usize, &str, &str); 3] = [
     (29, 82, "/// From https://www.iana.org/assignments/aead-parameters/aead-parameters.xhtml", "}"),
     (153, 305, "#[derive(Debug, Clone, Copy, PartialEq, Eq, Hash)]", "impl std::error::Error for NtsError {}"),
 ];
+
+/// The limit of messages.rs, and what the copy has in its place.
+const LIMIT: &str = "const MAX_MESSAGE_SIZE: u64 = 4096;";
+const RAISED_LIMIT: &str = "const MAX_MESSAGE_SIZE: u64 = 65535;";
 
 fn main() {
     println!("cargo::rerun-if-env-changed=CRATE_FILES");
@@ -34,5 +39,12 @@ fn main() {
         out.push_str(&format!("#[path = {file:?}]\nmod {name};\n"));
     }
     let folder = PathBuf::from(env::var("OUT_DIR").expect("OUT_DIR"));
+    let messages = nts.join("messages.rs");
+    println!("cargo::rerun-if-changed={}", messages.display());
+    let text = fs::read_to_string(messages).expect("the crate's nts/messages.rs");
+    assert_eq!(text.matches(LIMIT).count(), 1, "nts/messages.rs: {LIMIT}");
+    let raised = folder.join("messages_raised.rs");
+    fs::write(&raised, text.replace(LIMIT, RAISED_LIMIT)).expect("writing messages_raised.rs");
+    out.push_str(&format!("#[path = {raised:?}]\nmod messages_raised;\n"));
     fs::write(folder.join("nts.rs"), out).expect("writing nts.rs");
 }

@@ -19,13 +19,27 @@ const DIFFER: &str = "differ";
 const FAILED: &str = "failed";
 
 /// The outcomes that can occur, by what the ops do.
-const FAMILIES: [(&str, &[&[&str]]); 3] = [
+const FAMILIES: [(&str, &[&[&str]]); 4] = [
     ("read", &[&KINDS, &["refused 1", "refused 2"]]),
     ("write", &[&KINDS, &["a part", "refused 8", "refused 10"], &NO_RECORD]),
     ("measure", &[&KINDS, &["refused 8", "refused 9"]]),
+    ("request", &[&REQUESTS]),
 ];
 const KINDS: [&str; 16] =
     ["0", "1", "2", "3", "4", "5", "6", "7", "8", "9", "10", "12", "13", "14", "unknown c", "unknown -"];
+const REQUESTS: [&str; 11] = [
+    "key-exchange",
+    "key-exchange with names",
+    "fixed-key",
+    "support",
+    "refused 1",
+    "refused 2",
+    "refused 3",
+    "refused 4",
+    "refused 5",
+    "refused 6",
+    "refused 7",
+];
 /// Refusal 9 of a writer, by what it was to write.
 const NO_RECORD: [&str; 11] = [
     "refused 9 for 1",
@@ -132,6 +146,10 @@ fn count(counts: &mut BTreeMap<String, u64>, op: u8, payload: &[u8], line: &[u8]
 
 /// The outcome that the crate's line tells.
 fn outcome(op: u8, payload: &[u8], line: &[u8]) -> String {
+    if line.starts_with(b"key-exchange") {
+        return if line.ends_with(b">") { "request key-exchange with names" } else { "request key-exchange" }
+            .to_owned();
+    }
     let line = String::from_utf8_lossy(&line[..line.len().min(64)]);
     let words: Vec<&str> = line.splitn(7, ' ').collect();
     match (op, &words[..]) {
@@ -143,6 +161,8 @@ fn outcome(op: u8, payload: &[u8], line: &[u8]) -> String {
         (b'w' | b'W' | b'X', ["refused", number]) => format!("write refused {number}"),
         (b'z', ["length", ..]) => format!("measure {}", to_write(op, payload)),
         (b'z', ["refused", number]) => format!("measure refused {number}"),
+        (b'q' | b'Q' | b'L', ["refused", number, ..]) => format!("request refused {number}"),
+        (b'q' | b'Q' | b'L', [kind @ ("fixed-key" | "support"), ..]) => format!("request {kind}"),
         _ => line.into_owned(),
     }
 }

@@ -2,12 +2,15 @@
 
 mod names;
 mod records;
+mod requests;
+mod tokens;
 mod words;
 mod writes;
 
 use std::io::{self, Write};
 
 use crate::samples;
+pub use tokens::limited;
 
 pub const UNKNOWN: u16 = 11;
 pub const CRITICAL: u16 = 0x8000;
@@ -23,10 +26,14 @@ pub fn corpus(name: &str, seed: u64, count: Option<u64>, out: &mut impl Write) -
         "sample" => samples::reading(out)?,
         "cut" => records::cut_case(out)?,
         "sample-writing" => samples::writing(out)?,
+        "sample-requests" => samples::requests(out)?,
         "words" => words::every(seed, out)?,
         "names" => names::boundaries(out)?,
         "names3" => names::of_three(out)?,
         "random" => records::random(seed, count.unwrap_or(300_000), out)?,
+        "tokens" => tokens::up_to_three(out)?,
+        "tokens4" => tokens::of_four(out)?,
+        "requests" => requests::requests(seed, count.unwrap_or(300_000), out)?,
         "writes" => writes::writes(seed, count.unwrap_or(200_000), out)?,
         _ => return Err(io::Error::other(format!("no corpus is named {name}"))),
     }

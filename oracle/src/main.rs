@@ -19,6 +19,7 @@ mod nts {
     mod lines;
     mod poll;
     mod reading;
+    mod requests;
     mod writing;
 }
 

@@ -1,9 +1,11 @@
 //! The stored sample: few and short cases, chosen so that each line of document 01 has its own.
 
 mod reading;
+mod requests;
 mod writing;
 
 pub use reading::reading;
+pub use requests::requests;
 pub use writing::writing;
 
 /// Bytes from hexadecimal digits; blanks count for nothing.

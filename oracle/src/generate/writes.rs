@@ -152,7 +152,7 @@ fn too_long(random: &mut Random, out: &mut impl Write) -> io::Result<()> {
         let mut record = of_size(random, kind, 65_537);
         match kind {
             6 | 13 | 14 => record[65_537] = 0xff,
-            11 => record[2] = 5,
+            11 => record[1..3].copy_from_slice(&[0, 5]),
             12 => record[4] ^= 1,
             _ => {}
         }

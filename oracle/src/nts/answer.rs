@@ -2,7 +2,7 @@
 
 use std::io::{self, BufRead, Write};
 
-use super::{lines, reading, writing};
+use super::{lines, reading, requests, writing};
 use crate::corpus::Cases;
 
 pub fn corpus(input: impl BufRead, out: &mut impl Write) -> io::Result<bool> {
@@ -28,6 +28,15 @@ fn answered(line: &mut Vec<u8>, op: u8, payload: &[u8]) -> Option<()> {
             Some(())
         }
         b'R' => reading::at_place(line, payload),
+        b'q' => {
+            requests::under_the_crates_limit(line, payload);
+            Some(())
+        }
+        b'Q' => {
+            requests::under_the_largest_limit(line, payload);
+            Some(())
+        }
+        b'L' => requests::under_a_limit(line, payload),
         b'w' => writing::written(line, payload),
         b'W' => writing::written_into(line, payload),
         b'X' => writing::written_part(line, payload),

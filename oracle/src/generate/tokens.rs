@@ -1,0 +1,105 @@
+//! Sequences of records, all of them up to a length.
+
+use std::io::{self, Write};
+
+use super::record;
+use crate::corpus::put;
+use crate::samples::hex;
+
+pub const END: [u8; 4] = [0x80, 0, 0, 0];
+
+/// Each is a record or two: every kind, good and faulty, as a request may have it.
+const TOKENS: [&str; 39] = [
+    "8000 0000",
+    "0000 0002 8001",
+    "8001 0002 0000",
+    "8001 0000",
+    "8001 0004 0000 8001",
+    "0001 0002 0007",
+    "8001 0003 000000",
+    "8004 0002 000F",
+    "8004 0000",
+    "8004 0002 0011",
+    "8004 0004 000F 0011",
+    "0004 0002 0010",
+    "8001 0002 0000 8004 0002 000F",
+    "8004 0002 0011 8001 0002 8001",
+    "8002 0002 0001",
+    "8002 0003 000000",
+    "8003 0002 0000",
+    "0005 0002 4142",
+    "8006 0001 78",
+    "8006 0002 C1BF",
+    "8007 0002 007B",
+    "8007 0001 00",
+    "0008 0000",
+    "8008 0003 414243",
+    "8009 0000",
+    "0009 0002 0000",
+    "800A 0000",
+    "800A 0004 000F 0020",
+    "800A 0002 000F",
+    "000B 0000",
+    "800B 0000",
+    "800F 0001 41",
+    "7FFF 0003 414243",
+    "000D 0001 61",
+    "800D 0000",
+    "000D 0003 EDA080",
+    "000E 0002 C3A9",
+    "000E 0000",
+    "000E 0001 80",
+];
+/// Lengths of a key record's body.
+const KEYS: [usize; 6] = [0, 62, 64, 65, 66, 128];
+
+fn tokens() -> Vec<Vec<u8>> {
+    let keys = KEYS.iter().map(|&size| {
+        let body: Vec<u8> = (0..size).map(|index| index as u8).collect();
+        record(0x800c, size, &body)
+    });
+    TOKENS.iter().map(|token| hex(token)).chain(keys).collect()
+}
+
+/// All sequences of up to three: as they are, with an end record, and with a limit and a table near what they need.
+pub fn up_to_three(out: &mut impl Write) -> io::Result<()> {
+    let tokens = tokens();
+    let mut turn = 0;
+    for count in 0..=3 {
+        sequences(&tokens, count, &mut |sequence| {
+            turn += 1;
+            let bare = sequence.concat();
+            let whole = [&bare[..], &END].concat();
+            put(out, b'q', &bare)?;
+            put(out, if turn % 5 == 0 { b'Q' } else { b'q' }, &whole)?;
+            let length = whole.len();
+            let limit = [length, length - 1, length - 4, 65_535, 4096, length + 1, length / 2][turn % 7];
+            put(out, b'L', &limited(limit, turn % 9, &[&whole[..], &END].concat()))
+        })?;
+    }
+    Ok(())
+}
+
+/// All sequences of four, with an end record.
+pub fn of_four(out: &mut impl Write) -> io::Result<()> {
+    sequences(&tokens(), 4, &mut |sequence| put(out, b'q', &[&sequence.concat()[..], &END].concat()))
+}
+
+/// The payload of op L.
+pub fn limited(limit: usize, cells: usize, message: &[u8]) -> Vec<u8> {
+    let half = |number| u16::try_from(number).expect("a limit or a table's cells").to_be_bytes();
+    [&half(limit)[..], &half(cells), message].concat()
+}
+
+fn sequences(tokens: &[Vec<u8>], count: u32, each: &mut impl FnMut(&[&[u8]]) -> io::Result<()>) -> io::Result<()> {
+    for index in 0..tokens.len().pow(count) {
+        let mut rest = index;
+        let mut sequence = Vec::new();
+        for _ in 0..count {
+            sequence.push(&tokens[rest % tokens.len()][..]);
+            rest /= tokens.len();
+        }
+        each(&sequence)?;
+    }
+    Ok(())
+}
