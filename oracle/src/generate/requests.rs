@@ -98,7 +98,8 @@ fn short_name(random: &mut Random, kind: u16) -> Vec<u8> {
     record(word(random, kind), size, &body)
 }
 
-/// The records of a fixed-key request; now and then another algorithm or keys of another length.
+/// The records of a fixed-key request; now and then with another algorithm, keys of another length or
+/// a list of another length.
 fn fixed_key(random: &mut Random) -> Vec<Vec<u8>> {
     let (algorithm, half) = random.pick(&[(15u16, 32), (17, 64)]);
     let algorithm = if random.once_in(6) { random.word() as u16 } else { algorithm };
@@ -109,12 +110,17 @@ fn fixed_key(random: &mut Random) -> Vec<Vec<u8>> {
     };
     let keys = random.bytes(size);
     let protocol: u16 = random.pick(&[0, 0x8001, 7]);
-    vec![
+    let mut records = vec![
         record(word(random, 1), 2, &protocol.to_be_bytes()),
         record(word(random, 4), 2, &algorithm.to_be_bytes()),
         record(word(random, 12), size, &keys),
         short_name(random, 14),
-    ]
+    ];
+    if random.once_in(8) {
+        let (index, kind) = random.pick(&[(0, 1), (1, 4)]);
+        records[index] = list(random, kind);
+    }
+    records
 }
 
 /// The records of a support request.

@@ -7,8 +7,8 @@ use super::reading::M;
 use crate::corpus::put;
 use crate::generate::limited;
 
-/// Records by their kind's first letters; see `message`.
-const RECORDS: [(&str, &str); 36] = [
+/// Records by a name.
+const RECORDS: [(&str, &str); 37] = [
     ("end", "8000 0000"),
     ("end-with-body", "0000 0003 414243"),
     ("protocol", "8001 0002 0000"),
@@ -44,11 +44,12 @@ const RECORDS: [(&str, &str); 36] = [
     ("unknown", "000B 0000"),
     ("unknown-with-body", "7FFF 0002 4142"),
     ("critical", "800B 0000"),
+    ("critical-largest", "FFFF 0001 41"),
     ("critical-cut", "800F 0009 41"),
 ];
 
 /// Messages that are accepted or refused by the set of their records.
-const MESSAGES: [&str; 101] = [
+const MESSAGES: [&str; 102] = [
     "",
     "end",
     "end-with-body",
@@ -71,6 +72,7 @@ const MESSAGES: [&str; 101] = [
     "critical protocol algorithm end",
     "protocol critical algorithm end",
     "protocol algorithm critical end",
+    "protocol critical-largest algorithm end",
     "protocol algorithm critical-cut",
     "protocol protocol algorithm end",
     "protocol no-protocol algorithm end",
