@@ -5,3 +5,5 @@ pub mod Going
 pub mod Filling
 pub mod Decided
 pub mod Answering
+pub mod Apart
+pub mod Same

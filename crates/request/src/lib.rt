@@ -384,22 +384,28 @@ fn decide_support(found: Found, place: usize) -> Answer
 fn decide_exchange(found: Found, place: usize, room: usize) -> Answer
     ensures { λ r. ⌜ toldAnswer r ≡ exchangeIn found place room ⌝ }
 {
-    if found.protocols.there {
-        if found.algorithms.there {
+    let protocols = found.protocols;
+    let algorithms = found.algorithms;
+    if protocols.there {
+        if algorithms.there {
             if room < found.denied {
                 return refused(NtsError::TableFull, place);
             }
-            let protocols = found.protocols.body;
-            let algorithms = found.algorithms.body;
-            return Answer::Accepted(Request::KeyExchange {
-                protocols,
-                algorithms,
-                denied: found.denied,
-            });
+            return exchange(protocols.body, algorithms.body, found.denied);
         }
         return refused(NtsError::Invalid, place);
     }
     refused(NtsError::Invalid, place)
+}
+
+fn exchange(protocols: Part, algorithms: Part, denied: usize) -> Answer
+    ensures { λ r. ⌜ r ≡ Answer.Accepted (Request.KeyExchange protocols algorithms denied) ⌝ }
+{
+    Answer::Accepted(Request::KeyExchange {
+        protocols,
+        algorithms,
+        denied,
+    })
 }
 
 // Whether a list was there, with one entry.
@@ -542,10 +548,10 @@ fn fill(cut: &[u8], table: &mut [u16])
     let mut to: usize = 0;
     loop {
         let answer = NtsRecord::parse(cut, at);
-        let Parsed::Read(x) = answer else {
+        let Parsed::Read(y) = answer else {
             return;
         };
-        let item = x.item;
+        let item = y.item;
         let sight = sight_of(item);
         match sight {
             Sight::Name(name) => {
@@ -556,6 +562,6 @@ fn fill(cut: &[u8], table: &mut [u16])
                 return;
             }
         }
-        at = x.next.at;
+        at = y.next.at;
     }
 }

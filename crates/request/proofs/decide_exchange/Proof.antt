@@ -15,9 +15,12 @@ returns : tie.Need-returns
 unfolding exchangeIn
 returns c = ap toldAnswer (c .refused .ensures) ∙ rw (c .before .before .before .before .if1 .taken, c .before .before .before .if2 .taken, lt-ltb _ _ (c .before .if3 .taken))
 
+exchange-requires : tie.Need-exchange-requires
+exchange-requires c κs = search needs
+
 returns-2 : tie.Need-returns-2
 unfolding exchangeIn
-returns-2 c = rw (c .before .before .before .before .before .if1 .taken, c .before .before .before .before .if2 .taken, le-ltb _ _ (c .before .before .if3 .left))
+returns-2 c = ap toldAnswer (c .exchange .ensures) ∙ rw (c .before .before .before .before .if1 .taken, c .before .before .before .if2 .taken, le-ltb _ _ (c .before .if3 .left))
 
 refused-requires-2 : tie.Need-refused-requires-2
 refused-requires-2 c κs = search needs
@@ -39,6 +42,7 @@ decide-exchange-spec =
     (tie.spec
     refused-requires
     returns
+    exchange-requires
     returns-2
     refused-requires-2
     returns-3
