@@ -5,3 +5,4 @@ pub mod Writing
 pub mod Apart
 pub mod Same
 pub mod Inverse
+pub mod Trip

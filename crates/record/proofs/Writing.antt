@@ -59,6 +59,10 @@ sound l s e =
       body = and-right b _ y;
     }
 
+pub sound-record : (l : Layout) (s : List ℕ) → Sound l s → isRecord l s ≡ true
+unfolding isRecord isInside
+sound-record l s x = rw (le-leb _ _ (x .kind), le-leb _ _ (x .first), le-leb _ _ (x .second)) (x .body)
+
 -- two parts of one slice, one after the other, are not too long for a number of 64 bits
 pub parts-fit : (l : Layout) (s : List ℕ) → length s < 2 ^ 63 → isRecord l s ≡ true → l .first .len + l .second .len < 2 ^ 64
 parts-fit l s h e = let x = sound l s e in omega arith

@@ -2,3 +2,4 @@ pub mod Record
 pub mod Told
 pub mod Entry
 pub mod Write
+pub mod Shown

@@ -14,7 +14,7 @@ abbrev pub every : ℕ → (ℕ → Bool) → Bool
 every zero f = true
 every (suc n) f = f n && every n f
 
-below : (n : ℕ) (f : ℕ → Bool) → every n f ≡ true → (k : ℕ) → k < n → f k ≡ true
+pub below : (n : ℕ) (f : ℕ → Bool) → every n f ≡ true → (k : ℕ) → k < n → f k ≡ true
 below zero f t k h = absurd (not-suc-le-zero h)
 below (suc n) f t k h =
     ⊎-elim (λ e. rw e (and-left (f n) (every n f) t)) (λ l. below n f (and-right (f n) (every n f) t) k l)

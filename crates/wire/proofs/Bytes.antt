@@ -1,14 +1,15 @@
 -- Laws of numbers and parts of a list.
 -- Assumes nothing.
 use mathlib.Core.Path.{_≡_, ap}
-use mathlib.Core.List.{List}
-use Prim.Native.Nat.{ℕ, _+_, _-_, _*_, _<_, _≤_}
-use native.Mathlib.Nat.{add-sub-cancel-left, sub-self}
+use mathlib.Core.List.{List, [], _∷_, _++_}
+use Prim.Native.Nat.{ℕ, _+_, _-_, _*_, _/_, _%_, _<_, _≤_}
+use native.Mathlib.Nat.{add-sub-cancel-left, sub-self, div-add-mod'}
 use native.Mathlib.Omega.{arith}
 use borrow.Author.Tests.{le-leb, lt-leb}
-use lib.ListN.{length, getD, take, drop, length-drop, List·getD-eq-default}
-use lib.Seq.{getD-take, getD-drop, length-take-le}
+use lib.ListN.{length, getD, take, drop, length-append, length-drop, List·getD-eq-default}
+use lib.Seq.{getD-take, getD-drop, length-take-le, take-add, take-at, drop-at, drop-drop}
 use Rattle.wire.specs.Bytes.{numberAt, partAt}
+use Rattle.wire.specs.Over.{bytesOf}
 
 -- past the end both bytes read as 0
 pub number-past : (s : List ℕ) (at : ℕ) → length s ≤ at → 0 ≡ numberAt s at
@@ -28,6 +29,11 @@ pub number-take : (s : List ℕ) (n i : ℕ) → i + 1 < n → numberAt (take n 
 unfolding numberAt
 number-take s n i h = rw (getD-take n s i 0 (omega arith), getD-take n s (i + 1) 0 h)
 
+-- the bytes of a number are that number again
+pub number-back : (x : ℕ) (t : List ℕ) → numberAt (bytesOf x ++ t) 0 ≡ x
+unfolding numberAt bytesOf
+number-back x t = div-add-mod' x 256
+
 -- no bytes from any place are what a part that is not inside is
 pub part-none : (s : List ℕ) (i start n : ℕ) → length s < start + n → take (i - i) (drop i s) ≡ partAt s start n
 unfolding partAt
@@ -40,3 +46,38 @@ part-some s start n h = rw (le-leb (start + n) (length s) h, add-sub-cancel-left
 pub length-part : (s : List ℕ) (start n : ℕ) → start + n ≤ length s → length (partAt s start n) ≡ n
 unfolding partAt
 length-part s start n h = rw (le-leb (start + n) (length s) h) (length-take-le n (drop start s) (omega (arith, length-drop start s)))
+
+pub part-empty : (s : List ℕ) → partAt s 0 0 ≡ []
+unfolding partAt
+part-empty s = rw (le-leb 0 (length s) (omega arith))
+
+-- what stands between two lists is a part of them all
+pub part-between : (a x z : List ℕ) (i n : ℕ) → length a ≡ i → length x ≡ n → partAt (a ++ (x ++ z)) i n ≡ x
+unfolding partAt
+part-between a x z i n e f =
+    let h : i + n ≤ length (a ++ (x ++ z)) = simp length-append (omega arith) in
+    rw (le-leb (i + n) (length (a ++ (x ++ z))) h, drop-at a (x ++ z) i e, take-at x z n f)
+
+-- a part, and the part that begins where it ends
+pub part-join : (s : List ℕ) (start n k : ℕ) → start + n + k ≤ length s → partAt s start n ++ partAt s (start + n) k ≡ partAt s start (n + k)
+unfolding partAt
+part-join s start n k h =
+    let i : start + n ≤ length s = omega arith in
+    let j : start + (n + k) ≤ length s = omega arith in
+    rw (le-leb (start + n) (length s) i, le-leb (start + n + k) (length s) h, le-leb (start + (n + k)) (length s) j, take-add, drop-drop)
+
+-- a byte of a part
+pub part-at : (s : List ℕ) (start n i : ℕ) → start + n ≤ length s → i < n → getD (partAt s start n) i 0 ≡ getD s (start + i) 0
+unfolding partAt
+part-at s start n i h g = rw (le-leb (start + n) (length s) h, getD-take, getD-drop)
+
+-- two bytes are the bytes of their number
+pub bytes-back : (b : List ℕ) → length b ≡ 2 → getD b 1 0 < 256 → bytesOf (numberAt b 0) ≡ b
+unfolding bytesOf numberAt
+bytes-back [] e h = absurd (let z : ⊥ = omega arith in z)
+bytes-back (x ∷ []) e h = absurd (let z : ⊥ = omega arith in z)
+bytes-back (x ∷ y ∷ []) e h =
+    let p : (x * 256 + y) / 256 ≡ x = omega arith in
+    let q : (x * 256 + y) % 256 ≡ y = omega arith in
+    λ j. p j ∷ q j ∷ []
+bytes-back (x ∷ y ∷ z ∷ b) e h = absurd (let w : ⊥ = omega arith in w)

@@ -1,0 +1,42 @@
+-- What a record holds, whichever message its parts lie in, and what a writer makes of a record that was read: 01, "The record".
+use Prim.Native.Nat.{ℕ}
+use mathlib.Core.List.{List, _++_}
+use mathlib.Core.Bool.{Bool, cond, not, _||_}
+use lib.ListN.{drop}
+use lib.Dec.{eqb}
+use Rattle.wire.specs.Bytes.{partAt}
+use Rattle.wire.specs.Over.{bytesOf}
+use Rattle.record.specs.Record.{kind, critical, Value, Seen}
+use Rattle.record.specs.Record as value
+use Rattle.record.specs.Write.{isUnknown, wordOf}
+
+pub data Held : Type 0 where
+  nothing : Held
+  number : ℕ → Held
+  bytes : List ℕ → Held
+  halves : List ℕ → List ℕ → Held
+  unknown : Bool → List ℕ → Held
+
+-- a value of a message, its parts replaced by the bytes that they stand for
+unfoldable pub heldIn : List ℕ → Value → Held
+heldIn m value.skipped = nothing
+heldIn m (value.number n) = number n
+heldIn m (value.part a n) = bytes (partAt m a n)
+heldIn m (value.halves a n b k) = halves (partAt m a n) (partAt m b k)
+heldIn m (value.unknown bit a n) = unknown bit (partAt m a n)
+
+pub record Shown : Type 0 where
+  pub kind : ℕ
+  pub held : Held
+
+unfoldable pub shown : Seen → List ℕ → Shown
+shown x m = record { kind = x .kind; held = heldIn m (x .value) }
+
+-- the bit that is written: the table's, and of an unknown kind the bit that was read
+unfoldable pub bitOf : ℕ → Bool → Bool
+bitOf k bit = cond (isUnknown k) bit (not (eqb k 5 || eqb k 8 || eqb k 13 || eqb k 14))
+
+-- the bytes of a record as they were read, made those that are written: the bit is the one that is written, and of kinds 0 and 8 the size is 0
+-- and the body is left out; no other byte changes
+unfoldable pub canonical : List ℕ → List ℕ
+canonical s = bytesOf (wordOf (kind s) (bitOf (kind s) (critical s))) ++ cond (eqb (kind s) 0 || eqb (kind s) 8) (bytesOf 0) (drop 2 s)
