@@ -2,21 +2,38 @@
 ghost use Prim.Native.Nat.{_<_};
 
 mod case;
+mod lent;
 mod reading;
+mod requests;
 mod text;
+mod writing;
 
 struct Went {
     on: bool,
     used: usize,
 }
 
-// The line of one case.
-fn answer(op: u8, case: &[u8], out: &mut [u8], at: usize) -> usize {
+// The line of one case; what a call writes to is lent by the caller.
+fn answer(
+    op: u8,
+    case: &[u8],
+    dst: &mut [u8],
+    table: &mut [u16],
+    out: &mut [u8],
+    at: usize,
+) -> usize {
     match op {
         b'r' => reading::at_front(case, out, at),
         b'R' => reading::at_place(case, out, at),
         b'i' => reading::part_of(case, out, at),
         b'j' => reading::number_of(case, out, at),
+        b'w' => writing::whole_room(case, dst, out, at),
+        b'W' => writing::in_room(case, dst, out, at),
+        b'X' => writing::part_in(case, dst, out, at),
+        b'z' => writing::length_of(case, out, at),
+        b'q' => requests::under(4096, case, table, out, at),
+        b'Q' => requests::under(65535, case, table, out, at),
+        b'L' => requests::limited(case, table, out, at),
         _ => text::bad_case(out, at),
     }
 }
@@ -49,7 +66,7 @@ fn skip(buf: &mut [u8], size: usize) -> bool {
 }
 
 // One case: its op, its length and its payload are read, and its line is put behind what is to print.
-fn turn(buf: &mut [u8], out: &mut [u8], used: usize) -> Went {
+fn turn(buf: &mut [u8], dst: &mut [u8], table: &mut [u16], out: &mut [u8], used: usize) -> Went {
     let mut head = [0u8; 5];
     if io::read_full(0, &mut head) < 5 {
         return Went { on: false, used };
@@ -69,7 +86,7 @@ fn turn(buf: &mut [u8], out: &mut [u8], used: usize) -> Went {
     if io::read_full(0, &mut buf[0..n]) < n {
         return Went { on: false, used };
     }
-    let to = answer(head[0], &buf[0..n], out, used);
+    let to = answer(head[0], &buf[0..n], dst, table, out, used);
     let end = text::put(out, to, 10);
     Went {
         on: true,
@@ -88,11 +105,11 @@ fn left(turns: u64, on: bool) -> u64
     0
 }
 
-fn run(buf: &mut [u8], out: &mut [u8]) {
+fn run(buf: &mut [u8], dst: &mut [u8], table: &mut [u16], out: &mut [u8]) {
     let mut turns = u64::MAX;
     let mut used = 0;
     while turns > 0 {
-        let t = turn(buf, out, used);
+        let t = turn(buf, dst, table, out, used);
         used = t.used;
         turns = left(turns, t.on);
     }
@@ -101,6 +118,8 @@ fn run(buf: &mut [u8], out: &mut [u8]) {
 
 fn main() {
     let mut buf = [0u8; 66000];
+    let mut dst = [0u8; 66000];
+    let mut table = [0u16; 2048];
     let mut out = [0u8; 400000];
-    run(&mut buf, &mut out);
+    run(&mut buf, &mut dst, &mut table, &mut out);
 }

@@ -10,9 +10,9 @@ use lib.Dec.{leb}
 use Rattle.wire.specs.Bytes.{partAt}
 use Rattle.request.specs.Request.{nameIn}
 
-part-empty : (m : List ℕ) (a : ℕ) → partAt m a 0 ≡ []
+no-bytes : (m : List ℕ) (a : ℕ) → partAt m a 0 ≡ []
 unfolding partAt
-part-empty m a = go (leb (a + 0) (length m))
+no-bytes m a = go (leb (a + 0) (length m))
   where
     go : (b : Bool) → _≡_ {A = List ℕ} (cond b (take 0 (drop a m)) []) []
     go true = refl
@@ -23,4 +23,4 @@ pub no-name : (m table : List ℕ) (i : ℕ) → length table / 2 ≤ i → part
 unfolding nameIn
 no-name m table i h =
     let z = List·getD-eq-default table 0 {n = 2 * i + 1} (omega arith) in
-    part-empty m 0 ∙ sym (rw z (part-empty m (getD table (2 * i) 0)))
+    no-bytes m 0 ∙ sym (rw z (no-bytes m (getD table (2 * i) 0)))

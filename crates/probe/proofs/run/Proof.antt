@@ -7,10 +7,10 @@ use Rattle.probe.proofs.run.Statement.{statement}
 use Rattle.probe.proofs.run.Tie as tie
 
 abbrev Inv-loop : tie.InvT-loop
-Inv-loop buf₀ out₀ turns₀ used₀ buf out turns used = (length buf ≡ length buf₀) × (length out ≡ length out₀)
+Inv-loop buf₀ dst₀ table₀ out₀ turns₀ used₀ buf dst table out turns used = (length buf ≡ length buf₀) × (length dst ≡ length dst₀) × (length table ≡ length table₀) × (length out ≡ length out₀)
 
 abbrev μ-loop : tie.MeasureT-loop
-μ-loop buf₀ out₀ turns₀ used₀ buf out turns used = turns
+μ-loop buf₀ dst₀ table₀ out₀ turns₀ used₀ buf dst table out turns used = turns
 
 loop-holds : tie.Need-loop-holds Inv-loop μ-loop
 loop-holds c = search needs
@@ -36,6 +36,12 @@ same-length c = search needs
 same-length-2 : tie.Need-same-length-2 Inv-loop μ-loop
 same-length-2 c = search needs
 
+same-length-3 : tie.Need-same-length-3 Inv-loop μ-loop
+same-length-3 c = search needs
+
+same-length-4 : tie.Need-same-length-4 Inv-loop μ-loop
+same-length-4 c = search needs
+
 returns : tie.Need-returns Inv-loop μ-loop
 returns c = search needs
 
@@ -53,4 +59,6 @@ run-spec =
     flush-requires
     same-length
     same-length-2
+    same-length-3
+    same-length-4
     returns)

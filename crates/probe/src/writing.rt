@@ -1,0 +1,196 @@
+// The ops of writing: w and W for one record, X for a part of it, z for its exact length.
+use super::case;
+use super::lent;
+use super::text;
+ghost use Prim.Native.Nat.{_+_, _≤_};
+ghost use lib.ListN.{length};
+use nts::ErrorCode;
+use nts::WarningCode;
+use record::ByteCount;
+use record::NtsRecord;
+use record::Part;
+
+// The record that a case gives; its parts lie in the case.
+pub enum Given {
+    Item(NtsRecord),
+    Bad,
+}
+
+// All of a case from a place on.
+fn rest(case: &[u8], at: usize) -> Part
+    ensures { λ r. ⌜ r .start + r .len ≤ length (now (case .entry)) ⌝ }
+{
+    if at <= case.len() {
+        return Part {
+            start: at,
+            len: case.len() - at,
+        };
+    }
+    Part { start: 0, len: 0 }
+}
+
+// A record with no body; bytes left over are none.
+fn bare(case: &[u8], at: usize, item: NtsRecord) -> Given {
+    if at == case.len() {
+        return Given::Item(item);
+    }
+    Given::Bad
+}
+
+fn with_number(kind: u16, case: &[u8], at: usize) -> Given {
+    let left = rest(case, at);
+    if left.len != 2 {
+        return Given::Bad;
+    }
+    let n = case::number16(case, at);
+    match kind {
+        NtsRecord::ERROR => Given::Item(NtsRecord::Error(ErrorCode(n))),
+        NtsRecord::WARNING => Given::Item(NtsRecord::Warning(WarningCode(n))),
+        _ => Given::Item(NtsRecord::Port(n)),
+    }
+}
+
+// Four bytes of the first half's length, and both halves.
+fn with_halves(case: &[u8], at: usize) -> Given {
+    let left = rest(case, at);
+    if left.len < 4 {
+        return Given::Bad;
+    }
+    let first = case::number32(case, at);
+    if left.len - 4 < first {
+        return Given::Bad;
+    }
+    let start = left.start + 4;
+    Given::Item(NtsRecord::FixedKeyRequest {
+        c2s: Part { start, len: first },
+        s2c: Part {
+            start: start + first,
+            len: left.len - 4 - first,
+        },
+    })
+}
+
+// Two bytes of number, one for the bit, and the body.
+fn with_bit(case: &[u8], at: usize) -> Given {
+    let left = rest(case, at);
+    if left.len < 3 {
+        return Given::Bad;
+    }
+    let bit = wire::byte_at(case, left.start + 2);
+    if bit > 1 {
+        return Given::Bad;
+    }
+    Given::Item(NtsRecord::Unknown {
+        record_type: case::number16(case, at),
+        critical: bit == 1,
+        data: Part {
+            start: left.start + 3,
+            len: left.len - 3,
+        },
+    })
+}
+
+// A kind byte, and what belongs to it.
+fn record_in(case: &[u8], from: usize) -> Given {
+    if case.len() <= from {
+        return Given::Bad;
+    }
+    let kind = wire::byte_at(case, from) as u16;
+    let at = from + 1;
+    let body = rest(case, at);
+    match kind {
+        NtsRecord::END_OF_MESSAGE => bare(case, at, NtsRecord::EndOfMessage),
+        NtsRecord::NEXT_PROTOCOL => Given::Item(NtsRecord::NextProtocol(body)),
+        NtsRecord::ERROR => with_number(kind, case, at),
+        NtsRecord::WARNING => with_number(kind, case, at),
+        NtsRecord::AEAD_ALGORITHM => Given::Item(NtsRecord::AeadAlgorithm(body)),
+        NtsRecord::NEW_COOKIE => Given::Item(NtsRecord::NewCookie(body)),
+        NtsRecord::SERVER => Given::Item(NtsRecord::Server(body)),
+        NtsRecord::PORT => with_number(kind, case, at),
+        NtsRecord::KEEP_ALIVE => bare(case, at, NtsRecord::KeepAlive),
+        NtsRecord::SUPPORTED_NEXT_PROTOCOL_LIST => Given::Item(NtsRecord::SupportedNextProtocolList(
+            body,
+        )),
+        NtsRecord::SUPPORTED_ALGORITHM_LIST => Given::Item(NtsRecord::SupportedAlgorithmList(body)),
+        NtsRecord::KIND_WITHOUT_NAME => with_bit(case, at),
+        NtsRecord::FIXED_KEY_REQUEST => with_halves(case, at),
+        NtsRecord::NTP_SERVER_DENY => Given::Item(NtsRecord::NtpServerDeny(body)),
+        NtsRecord::AUTHENTICATION => Given::Item(NtsRecord::Authentication(body)),
+        _ => Given::Bad,
+    }
+}
+
+// A record written into an output, with ` CHANGED` where a byte behind it, or any byte of a refused one, is not as it was.
+fn put_written(item: NtsRecord, source: &[u8], dst: &mut [u8], out: &mut [u8], at: usize) -> usize {
+    lent::fill(dst);
+    let answer = item.serialize(source, dst);
+    match answer {
+        ByteCount::Bytes(n) => {
+            let word = text::put_text(out, at, b"wrote ");
+            if n <= dst.len() {
+                let to = text::put_bytes(out, word, &dst[0..n]);
+                return lent::put_changed(out, to, lent::is_filled(dst, n));
+            }
+            word
+        }
+        ByteCount::Refused(error) => {
+            let to = text::put_refusal(out, at, error);
+            lent::put_changed(out, to, lent::is_filled(dst, 0))
+        }
+    }
+}
+
+// Op w: a record, into an output of all the room.
+pub fn whole_room(case: &[u8], dst: &mut [u8], out: &mut [u8], at: usize) -> usize {
+    let record = record_in(case, 0);
+    match record {
+        Given::Item(item) => put_written(item, case, dst, out, at),
+        Given::Bad => text::bad_case(out, at),
+    }
+}
+
+// Op W: the output's room, and a record.
+pub fn in_room(case: &[u8], dst: &mut [u8], out: &mut [u8], at: usize) -> usize {
+    if case.len() < 4 {
+        return text::bad_case(out, at);
+    }
+    let room = case::number32(case, 0);
+    if dst.len() < room {
+        return text::bad_case(out, at);
+    }
+    let record = record_in(case, 4);
+    match record {
+        Given::Item(item) => put_written(item, case, &mut dst[0..room], out, at),
+        Given::Bad => text::bad_case(out, at),
+    }
+}
+
+// Op X: a cookie's start and length, and the bytes that it may lie in.
+pub fn part_in(case: &[u8], dst: &mut [u8], out: &mut [u8], at: usize) -> usize {
+    if case.len() < 16 {
+        return text::bad_case(out, at);
+    }
+    let body = Part {
+        start: case::number64(case, 0),
+        len: case::number64(case, 8),
+    };
+    put_written(NtsRecord::NewCookie(body), &case[16..], dst, out, at)
+}
+
+// Op z: a record's exact length.
+pub fn length_of(case: &[u8], out: &mut [u8], at: usize) -> usize {
+    let record = record_in(case, 0);
+    match record {
+        Given::Item(item) => {
+            let answer = item.length(case);
+            match answer {
+                ByteCount::Bytes(n) => {
+                    let word = text::put_text(out, at, b"length ");
+                    text::put_decimal(out, word, n as u64)
+                }
+                ByteCount::Refused(error) => text::put_refusal(out, at, error),
+            }
+        }
+        Given::Bad => text::bad_case(out, at),
+    }
+}
