@@ -7,3 +7,4 @@ pub mod Decided
 pub mod Answering
 pub mod Apart
 pub mod Same
+pub mod Messages

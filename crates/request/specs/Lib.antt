@@ -1,2 +1,3 @@
 pub mod Request
 pub mod State
+pub mod Messages
