@@ -8,3 +8,5 @@ pub mod Answering
 pub mod Apart
 pub mod Same
 pub mod Messages
+pub mod Lawful
+pub mod Order
