@@ -1,0 +1,33 @@
+-- What a caller gets in hand of an accepted request: demand 3, "the answer's kind, numbers, names, keys and cookies".
+use Prim.Native.Nat.{ℕ, zero, suc, _+_}
+use mathlib.Core.List.{List, [], _∷_}
+use mathlib.Core.Bool.{Bool}
+use Rattle.wire.specs.Bytes.{partAt}
+use Rattle.record.specs.declared.Part.{Part}
+use Rattle.request.specs.declared.Request.{Request}
+use Rattle.request.specs.declared.Request.the-variants.{KeyExchange, FixedKey, Support}
+use Rattle.request.specs.Request.{nameIn}
+
+-- bytes and numbers, and no place
+pub data Shown : Type 0 where
+  -- protocols, algorithms, how many names are denied, and the names in their order
+  keyExchange : List ℕ → List ℕ → ℕ → List (List ℕ) → Shown
+  -- authentication, the keys from client to server and from server to client, algorithm, protocol, and keep-alive
+  fixedKey : List ℕ → List ℕ → List ℕ → ℕ → ℕ → Bool → Shown
+  -- authentication, whether protocols and algorithms are wanted, and keep-alive
+  support : List ℕ → Bool → Bool → Bool → Shown
+
+-- a part of the message, as record::Part::of gives it
+abbrev pub bytesAt : List ℕ → Part → List ℕ
+bytesAt m p = partAt m (p .start) (p .len)
+
+-- so many names from an index of the table on, as request::denied_name gives them
+abbrev pub namesFrom : List ℕ → List ℕ → ℕ → ℕ → List (List ℕ)
+namesFrom m table i zero = []
+namesFrom m table i (suc n) = nameIn m table i ∷ namesFrom m table (i + 1) n
+
+-- of a message, the table after the call, and the request that the call answered
+abbrev pub handedOut : List ℕ → List ℕ → Request → Shown
+handedOut m table (KeyExchange p a d) = keyExchange (bytesAt m p) (bytesAt m a) d (namesFrom m table 0 d)
+handedOut m table (FixedKey u c s a p k) = fixedKey (bytesAt m u) (bytesAt m c) (bytesAt m s) (a .0) (p .0) k
+handedOut m table (Support u p a k) = support (bytesAt m u) p a k

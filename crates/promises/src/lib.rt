@@ -1,0 +1,1 @@
+// What the demands promise, restated where a reviewer opens first: definitions in specs/, theorems in proofs/.
