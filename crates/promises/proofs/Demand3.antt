@@ -72,3 +72,68 @@ pub record Called (m : List ℕ) (n : ℕ) (table : List ℕ) (r : Answer) (afte
 
 called-reads : (m : List ℕ) (n : ℕ) (table : List ℕ) (r : Answer) (after : List ℕ) → Called m n table r after → Reads m n table r after
 called-reads m n table r after c = rw (← c .of-message, ← c .of-limit, ← c .of-table, ← c .of-exit) (c .met)
+
+-- two calls under one limit, with tables of one length
+module _ (n : ℕ) (table table′ : List ℕ) (r r′ : Answer) (after after′ : List ℕ) (long : length table ≡ length table′) where
+  -- the definition shows the same bodies of both messages: then the calls hand out the same
+  same-in-hand : (m m′ : List ℕ) (x : Request) → Called m n table r after → Called m′ n table′ r′ after′ → r ≡ Accepted x
+      → ((q : Form Sighting) → request m n (length table / 2) ≡ accepted q → order.Shows m′ n (length table / 2) (mapForm (bodyIn m) q))
+      → (x′ : Request) × (r′ ≡ Accepted x′) × (handedOut m′ after′ x′ ≡ handedOut m after x)
+  same-in-hand m m′ x c c′ e law =
+      let k = called-reads m n table r after c in
+      let k′ = called-reads m′ n table′ r′ after′ c′ in
+      let q = answered m n table r after k x e in
+      let s = law (q .0) (q .1) in
+      let w : request m′ n (length table′ / 2) ≡ accepted (s .0) = ap (λ (j : ℕ). request m′ n (j / 2)) (sym long) ∙ s .1 in
+      let x′ = answers m′ n table′ r′ after′ k′ (s .0) w in (
+        x′ .0,
+        x′ .1,
+        in-hand m′ n table′ r′ after′ k′ (x′ .0) (s .0) (x′ .1) w
+            ∙ ap inHand (s .2)
+            ∙ sym (in-hand m n table r after k x (q .0) e (q .1)),
+      )
+
+  -- the records of an accepted message in another order, denied names keeping theirs and cookies theirs: the second call accepts too, and what
+  -- the two answers and tables hand out is the same
+  pub parse-reordered : (cs cs′ : List (List ℕ)) (e t t′ : List ℕ) (x : Request)
+      → Called (message cs e t) n table r after → Called (message cs′ e t′) n table′ r′ after′
+      → Each Record cs → End e → List·Permᴰ cs cs′ → recordsOf 13 cs ≡ recordsOf 13 cs′ → recordsOf 5 cs ≡ recordsOf 5 cs′
+      → r ≡ Accepted x
+      → (x′ : Request) × (r′ ≡ Accepted x′) × (handedOut (message cs′ e t′) after′ x′ ≡ handedOut (message cs e t) after x)
+  parse-reordered cs cs′ e t t′ x c c′ i l d names cookies h =
+      same-in-hand (message cs e t) (message cs′ e t′) x c c′ h
+      (λ q w. reordered n (length table / 2) cs cs′ e t t′ q i l d names cookies w)
+
+  -- a whole record more of unknown kind, its bit clear, and the message through its end still fits: the same
+  pub parse-inserted : (xs ys : List (List ℕ)) (u e t t′ : List ℕ) (x : Request)
+      → Called (message (xs ++ ys) e t) n table r after → Called (message (xs ++ (u ∷ ys)) e t′) n table′ r′ after′
+      → Each Record (xs ++ ys) → End e → Whole u → known (kind u) ≡ false → critical u ≡ false
+      → length (flat (xs ++ (u ∷ ys))) + length e ≤ n
+      → r ≡ Accepted x
+      → (x′ : Request) × (r′ ≡ Accepted x′)
+      × (handedOut (message (xs ++ (u ∷ ys)) e t′) after′ x′ ≡ handedOut (message (xs ++ ys) e t) after x)
+  parse-inserted xs ys u e t t′ x c c′ i l w k b f h =
+      same-in-hand (message (xs ++ ys) e t) (message (xs ++ (u ∷ ys)) e t′) x c c′ h
+      (λ q g. inserted n (length table / 2) xs ys u e t t′ q i l w k b f g)
+
+  -- with its bit set: the second call refuses with 3 and nothing beside it, at that record, and leaves its table as it was
+  pub parse-inserted-critical : (xs ys : List (List ℕ)) (u e t t′ : List ℕ) (x : Request)
+      → Called (message (xs ++ ys) e t) n table r after → Called (message (xs ++ (u ∷ ys)) e t′) n table′ r′ after′
+      → Each Record (xs ++ ys) → End e → Whole u → known (kind u) ≡ false → critical u ≡ true
+      → length (flat (xs ++ (u ∷ ys))) + length e ≤ n
+      → r ≡ Accepted x
+      → (y : Refusal) × (r′ ≡ Refused y) × (toldRefusal y ≡ record { number = 3; beside = nothing; place = length (flat xs) })
+      × (after′ ≡ table′)
+  parse-inserted-critical xs ys u e t t′ x c c′ i l w k b f h =
+      let m = message (xs ++ ys) e t in
+      let m′ = message (xs ++ (u ∷ ys)) e t′ in
+      let q = answered m n table r after (called-reads m n table r after c) x h in
+      let no = inserted-critical n (length table / 2) xs ys u e t t′ (q .0) i l w k b f (q .1) in
+      refuses m′ n table′ r′ after′ (called-reads m′ n table′ r′ after′ c′) _ (ap (λ (j : ℕ). request m′ n (j / 2)) (sym long) ∙ no)
+
+-- what a call accepts is records, an end record through which it fits the limit, and a tail
+pub parse-accepted-is : (m : List ℕ) (n : ℕ) (table : List ℕ) (r : Answer) (after : List ℕ) (x : Request)
+    → Called m n table r after → r ≡ Accepted x → Parts Record End m n
+parse-accepted-is m n table r after x c h =
+    let q = answered m n table r after (called-reads m n table r after c) x h in
+    accepted-is m n (length table / 2) (q .0) (q .1)

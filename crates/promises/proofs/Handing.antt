@@ -72,11 +72,11 @@ module _ (m rest : List ℕ) where
       let moved : front ++ (x .start ∷ x .len ∷ more) ≡ (front ++ two) ++ more = sym (append-assoc front two more) in
       let start : getD (front ++ (x .start ∷ x .len ∷ more)) (2 * i) 0 ≡ x .start = getD-at front (x .start) (x .len ∷ more) 0 (2 * i) l in
       let len : getD (front ++ (x .start ∷ x .len ∷ more)) (2 * i + 1) 0 ≡ x .len =
-          ap (λ (n : ℕ). getD (front ++ (x .start ∷ x .len ∷ more)) (n + 1) 0) (sym l) ∙ getD-append-add front (x .start ∷ x .len ∷ more) 1 0 in
+      ap (λ (n : ℕ). getD (front ++ (x .start ∷ x .len ∷ more)) (n + 1) 0) (sym l) ∙ getD-append-add front (x .start ∷ x .len ∷ more) 1 0 in
       let name : partAt m (getD (front ++ (x .start ∷ x .len ∷ more)) (2 * i) 0) (getD (front ++ (x .start ∷ x .len ∷ more)) (2 * i + 1) 0) ≡ bodyIn m x =
-          rw (start, len) (part-body m x (h .0)) in
+      rw (start, len) (part-body m x (h .0)) in
       let others : namesFrom m (front ++ (x .start ∷ x .len ∷ more)) (i + 1) (length d) ≡ map (bodyIn m) d =
-          rw moved (names-back (front ++ two) (i + 1) d (omega (arith, length-append front two)) (h .1)) in
+      rw moved (names-back (front ++ two) (i + 1) d (omega (arith, length-append front two)) (h .1)) in
       cc
 
 -- ---- what the call answered
