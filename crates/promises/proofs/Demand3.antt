@@ -2,8 +2,8 @@
 -- calls of request::Request::parse, of their answers and of the table's cells afterwards. Every accepted message is of the form that the
 -- theorems speak of: `accepted-is`. proofs/Examples.antt has messages to which they apply.
 -- Assumes nothing.
-use mathlib.Core.Path.{_≡_, refl, sym, ap, _∙_}
-use mathlib.Core.List.{List, [], _∷_, _++_, List·Permᴰ}
+use mathlib.Core.Path.{_≡_, sym, ap, _∙_}
+use mathlib.Core.List.{List, _∷_, _++_, List·Permᴰ}
 use mathlib.Core.Bool.{true, false}
 use Prim.Native.Nat.{ℕ, _+_, _/_, _≤_}
 use lib.ListN.{length}

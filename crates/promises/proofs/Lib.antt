@@ -1,2 +1,3 @@
 pub mod Handing
 pub mod Demand3
+pub mod Examples

@@ -13,7 +13,7 @@ use Rattle.nts.specs.Algorithm.{Described, known, unknown, describe}
 use Rattle.walk.specs.Walk.{ends, passes, notes, refuses}
 use Rattle.walk.specs.Judge.{Verdict, no, yes}
 use Rattle.walk.proofs.Laws.{mapVerdict, Lawful}
-use Rattle.request.specs.Request.{act, once, reader, Form, keyExchange, fixedKey, support, mapForm, some, withFirst, keyed, fixedBy, decide, judgeBy}
+use Rattle.request.specs.Request.{act, once, reader, Form, fixedKey, mapForm, some, withFirst, keyed, fixedBy, decide, judgeBy}
 
 -- ---- kind 0 alone ends a message
 
