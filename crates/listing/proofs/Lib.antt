@@ -1,0 +1,6 @@
+pub mod Digits
+pub mod Texts
+pub mod Lines
+pub mod Passes
+pub mod Whole
+pub mod Same

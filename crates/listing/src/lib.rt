@@ -1,0 +1,301 @@
+// The listing of a message: a line for each record that reads whole, and one for what the request reader answered.
+use nts::Code;
+use nts::Refusal;
+use record::NtsRecord;
+use record::Parsed;
+use request::Answer;
+use request::Request;
+ghost use mathlib.Core.Path.{_≡_};
+ghost use mathlib.Core.List.{[], _∷_, _++_};
+ghost use Prim.Native.Nat.{_+_, _≤_};
+ghost use lib.ListN.{length};
+ghost use lib.Dec.{leb};
+ghost use Rattle.wire.specs.Over.{Put, Tried};
+ghost use Rattle.nts.specs.Refusal.{toldCode, toldRefusal};
+ghost use Rattle.record.specs.Record.{kindOf, criticalOf};
+ghost use Rattle.request.specs.Request.{refusedWith, toldAnswer};
+ghost use Rattle.listing.specs.Listing.{space, newline, digits, heading, mark, isLast, recordLines, protocolsText, algorithmsText, deniedText, besideText, answerText, lastOf, listing};
+ghost use Rattle.listing.specs.Code.{PutMost, rowIn, rowLine, LineAt};
+
+// What a line tells of a record besides its place.
+struct Row {
+    kind: u16,
+    critical: bool,
+    size: u16,
+}
+
+// The line of the record at a place, if it has one, and the place of the next record that may have one.
+enum Line {
+    None,
+    Last(Row),
+    More(Row, usize),
+}
+
+// The longest line of a record, and more than the longest last line.
+const LINE: usize = 65;
+
+const LAST_LINE: usize = 112;
+
+// The whole listing of a message, already cut at its limit, for what the request reader answered: how many bytes that is,
+// or 0 and nothing written where there is no room.
+pub fn list(message: &[u8], answer: Answer, out: &mut [u8]) -> usize
+    ensures { λ r. ⌜ Tried (length (listing (now (message .entry)) (toldAnswer answer)))
+        (listing (now (message .entry)) (toldAnswer answer)) (now (out .entry)) r (now (out .exit)) ⌝ }
+{
+    let mut last = [0u8; LAST_LINE];
+    let n = put_last(answer, &mut last);
+    if out.len() < 20 + n {
+        return 0;
+    }
+    if lines_fit(message, answer, out.len() - 20 - n) {
+        return put_all(message, answer, &last[0..n], out);
+    }
+    0
+}
+
+// Heading, records and last line, into an output that has room for them.
+fn put_all(message: &[u8], answer: Answer, last: &[u8], out: &mut [u8]) -> usize
+    requires { ⌜ 20 + length (recordLines (lastOf (toldAnswer answer)) 0 0 (now message)) + length (now last) ≤ length (now out) ⌝ }
+    ensures { λ r. ⌜ Put (20 + length (recordLines (lastOf (toldAnswer answer)) 0 0 (now (message .entry))) + length (now (last .entry)))
+        ((heading ++ recordLines (lastOf (toldAnswer answer)) 0 0 (now (message .entry))) ++ now (last .entry))
+        (now (out .entry)) r (now (out .exit)) ⌝ }
+{
+    let a = wire::put_bytes(b"place type bit size\n", out);
+    let b = a + put_lines(message, answer, &mut out[a..]);
+    b + wire::put_bytes(last, &mut out[b..])
+}
+
+// Whether the lines of the records take no more than `room` bytes; nothing is summed up past that.
+fn lines_fit(message: &[u8], answer: Answer, room: usize) -> bool
+    ensures { λ r. ⌜ r ≡ leb (length (recordLines (lastOf (toldAnswer answer)) 0 0 (now (message .entry)))) room ⌝ }
+{
+    let mut at: usize = 0;
+    let mut left = room;
+    loop {
+        let line = line_at(message, answer, at);
+        match line {
+            Line::None => {
+                return true;
+            }
+            Line::Last(x) => {
+                return line_length(at, x) <= left;
+            }
+            Line::More(x, next) => {
+                let n = line_length(at, x);
+                if left < n {
+                    return false;
+                }
+                left -= n;
+                at = next;
+            }
+        }
+    }
+}
+
+// The lines of the records, into an output that has room for them.
+fn put_lines(message: &[u8], answer: Answer, out: &mut [u8]) -> usize
+    requires { ⌜ length (recordLines (lastOf (toldAnswer answer)) 0 0 (now message)) ≤ length (now out) ⌝ }
+    ensures { λ r. ⌜ Put (length (recordLines (lastOf (toldAnswer answer)) 0 0 (now (message .entry))))
+        (recordLines (lastOf (toldAnswer answer)) 0 0 (now (message .entry))) (now (out .entry)) r (now (out .exit)) ⌝ }
+{
+    let mut at: usize = 0;
+    let mut to: usize = 0;
+    loop {
+        let line = line_at(message, answer, at);
+        match line {
+            Line::None => {
+                return to;
+            }
+            Line::Last(x) => {
+                return to + put_line(at, x, &mut out[to..]);
+            }
+            Line::More(x, next) => {
+                to += put_line(at, x, &mut out[to..]);
+                at = next;
+            }
+        }
+    }
+}
+
+// The record at a place has a line where it reads whole. None follows an end record or the one that was refused.
+fn line_at(message: &[u8], answer: Answer, at: usize) -> Line
+    ensures { λ r. ⌜ LineAt (lastOf (toldAnswer answer)) (now (message .entry)) at r ⌝ }
+{
+    let parsed = NtsRecord::parse(message, at);
+    match parsed {
+        Parsed::Read(x) => {
+            let row = row_at(message, at);
+            if row.kind == NtsRecord::END_OF_MESSAGE {
+                return Line::Last(row);
+            }
+            if is_last(answer, at) {
+                return Line::Last(row);
+            }
+            Line::More(row, x.next.at)
+        }
+        Parsed::Refused(_) => Line::None,
+    }
+}
+
+fn row_at(message: &[u8], at: usize) -> Row
+    requires { ⌜ at + 4 ≤ length (now message) ⌝ }
+    ensures { λ r. ⌜ r ≡ rowIn (now (message .entry)) at ⌝ }
+{
+    let word = wire::number_at(message, at);
+    Row {
+        kind: kind_of(word),
+        critical: is_critical(word),
+        size: wire::number_at(message, at + 2),
+    }
+}
+
+fn kind_of(word: u16) -> u16
+    ensures { λ r. ⌜ r ≡ kindOf word ⌝ }
+{
+    word & NtsRecord::KIND_BITS
+}
+
+fn is_critical(word: u16) -> bool
+    ensures { λ r. ⌜ r ≡ criticalOf word ⌝ }
+{
+    word & NtsRecord::CRITICAL_BIT != 0
+}
+
+// Whether the answer is a refusal of the record at this place.
+fn is_last(answer: Answer, at: usize) -> bool
+    ensures { λ r. ⌜ r ≡ isLast (lastOf (toldAnswer answer)) at ⌝ }
+{
+    match answer {
+        Answer::Accepted(_) => false,
+        Answer::Refused(refusal) => at == refusal.place,
+    }
+}
+
+fn line_length(at: usize, row: Row) -> usize
+    ensures { λ r. ⌜ r ≡ length (rowLine at row) ⌝ }
+{
+    let mut line = [0u8; LINE];
+    make_line(at, row, &mut line)
+}
+
+fn put_line(at: usize, row: Row, out: &mut [u8]) -> usize
+    ensures { λ r. ⌜ Tried (length (rowLine at row)) (rowLine at row) (now (out .entry)) r (now (out .exit)) ⌝ }
+{
+    let mut line = [0u8; LINE];
+    let n = make_line(at, row, &mut line);
+    wire::put_bytes(&line[0..n], out)
+}
+
+// A record's line at the front of an output that has room for the longest.
+fn make_line(at: usize, row: Row, out: &mut [u8]) -> usize
+    requires { ⌜ 65 ≤ length (now out) ⌝ }
+    ensures { λ r. ⌜ PutMost 65 (rowLine at row) (now (out .entry)) r (now (out .exit)) ⌝ }
+{
+    let a = put_digits(at, out);
+    let b = a + put_field(b" ", row.kind as usize, &mut out[a..]);
+    let c = b + put_size(row.critical, row.size as usize, &mut out[b..]);
+    c + wire::put_bytes(b"\n", &mut out[c..])
+}
+
+// A record's bit and size.
+fn put_size(critical: bool, size: usize, out: &mut [u8]) -> usize
+    requires { ⌜ 23 ≤ length (now out) ⌝ }
+    ensures { λ r. ⌜ PutMost 23 ((space ∷ mark critical ∷ space ∷ []) ++ digits size) (now (out .entry)) r (now (out .exit)) ⌝ }
+{
+    if critical {
+        return put_field(b" c ", size, out);
+    }
+    put_field(b" - ", size, out)
+}
+
+// The last line at the front of an output that has room for the longest.
+fn put_last(answer: Answer, out: &mut [u8]) -> usize
+    requires { ⌜ 112 ≤ length (now out) ⌝ }
+    ensures { λ r. ⌜ PutMost 112 (answerText (toldAnswer answer) ++ (newline ∷ [])) (now (out .entry)) r (now (out .exit)) ⌝ }
+{
+    let a = put_answer(answer, out);
+    a + wire::put_bytes(b"\n", &mut out[a..])
+}
+
+fn put_answer(answer: Answer, out: &mut [u8]) -> usize
+    requires { ⌜ 111 ≤ length (now out) ⌝ }
+    ensures { λ r. ⌜ PutMost 111 (answerText (toldAnswer answer)) (now (out .entry)) r (now (out .exit)) ⌝ }
+{
+    match answer {
+        Answer::Accepted(request) => match request {
+            Request::KeyExchange {
+                protocols,
+                algorithms,
+                denied,
+            } => put_exchange(protocols.len / 2, algorithms.len / 2, denied, out),
+            Request::FixedKey {
+                authentication: _,
+                c2s: _,
+                s2c: _,
+                algorithm: _,
+                protocol: _,
+                keep_alive: _,
+            } => wire::put_bytes(b"request fixed-key", out),
+            Request::Support {
+                authentication: _,
+                wants_protocols: _,
+                wants_algorithms: _,
+                keep_alive: _,
+            } => wire::put_bytes(b"request support", out),
+        },
+        Answer::Refused(refusal) => put_refusal(refusal, out),
+    }
+}
+
+fn put_exchange(protocols: usize, algorithms: usize, denied: usize, out: &mut [u8]) -> usize
+    requires { ⌜ 111 ≤ length (now out) ⌝ }
+    ensures { λ r. ⌜ PutMost 111 (protocolsText ++ (digits protocols ++ (algorithmsText ++ (digits algorithms ++ (deniedText ++ digits denied)))))
+        (now (out .entry)) r (now (out .exit)) ⌝ }
+{
+    let a = put_field(b"request key-exchange protocols ", protocols, out);
+    let b = a + put_field(b" algorithms ", algorithms, &mut out[a..]);
+    b + put_field(b" denied ", denied, &mut out[b..])
+}
+
+fn put_refusal(refusal: Refusal, out: &mut [u8]) -> usize
+    requires { ⌜ 78 ≤ length (now out) ⌝ }
+    ensures { λ r. ⌜ PutMost 78 (answerText (refusedWith (toldRefusal refusal))) (now (out .entry)) r (now (out .exit)) ⌝ }
+{
+    let error = refusal.error;
+    let a = put_field(b"refused ", error.number() as usize, out);
+    let b = a + put_field(b" at ", refusal.place, &mut out[a..]);
+    b + put_code(error.code(), &mut out[b..])
+}
+
+fn put_code(code: Code, out: &mut [u8]) -> usize
+    requires { ⌜ 26 ≤ length (now out) ⌝ }
+    ensures { λ r. ⌜ PutMost 26 (besideText (toldCode code)) (now (out .entry)) r (now (out .exit)) ⌝ }
+{
+    match code {
+        Code::None => 0,
+        Code::Number(n) => put_field(b" code ", n as usize, out),
+    }
+}
+
+// A text and then a number.
+fn put_field(text: &[u8], n: usize, out: &mut [u8]) -> usize
+    requires { ⌜ length (now text) + 20 ≤ length (now out) ⌝ }
+    ensures { λ r. ⌜ PutMost (length (now (text .entry)) + 20) (now (text .entry) ++ digits n) (now (out .entry)) r (now (out .exit)) ⌝ }
+{
+    let at = wire::put_bytes(text, out);
+    at + put_digits(n, &mut out[at..])
+}
+
+// A number in decimal: the digits before its last, and then that.
+fn put_digits(n: usize, out: &mut [u8]) -> usize
+    requires { ⌜ 20 ≤ length (now out) ⌝ }
+    ensures { λ r. ⌜ PutMost 20 (digits n) (now (out .entry)) r (now (out .exit)) ⌝ }
+{
+    if n < 10 {
+        out[0] = 48 + n as u8;
+        return 1;
+    }
+    let i = put_digits(n / 10, out);
+    out[i] = 48 + (n % 10) as u8;
+    i + 1
+}
