@@ -78,10 +78,6 @@ line-none l m at r e =
       onward = λ x next q. let z : _≡_ {A = ℕ} 0 1 = cc in absurd (omega arith);
     }
 
-or-true : (b : Bool) → (b || true) ≡ true
-or-true true = refl
-or-true false = refl
-
 module _ (l : Last) (m : List ℕ) (at : ℕ) (x : Seen) (next : ℕ) (e : read x next ≡ readAt m at) where
   was : WasRead at (drop at m) x next
   unfolding readAt
@@ -107,24 +103,21 @@ module _ (l : Last) (m : List ℕ) (at : ℕ) (x : Seen) (next : ℕ) (e : read 
       lines-read l at (drop at m) (was .faultless)
       ∙ rw (row-line m at, row-kind m at, q, f)
 
-  last : (eqb (rowIn m at .kind) 0 || isLast l at) ≡ true → LineAt l m at (line.Last (rowIn m at))
-  last q = record { same = all true q ∙ append-nil (rowLine at (rowIn m at)); onward = λ x next p. let z : _≡_ {A = ℕ} 0 1 = cc in absurd (omega arith) }
+  last : true ≡ (eqb (rowIn m at .kind) 0 || isLast l at) → LineAt l m at (line.Last (rowIn m at))
+  last h = record { same = all true (sym h) ∙ append-nil (rowLine at (rowIn m at)); onward = λ x next p. let z : _≡_ {A = ℕ} 0 1 = cc in absurd (omega arith) }
 
-  pub line-end : (y : Row) → y ≡ rowIn m at → y .kind ≡ 0 → LineAt l m at (line.Last y)
-  line-end y q h = rw q (last (ap (λ (b : Bool). b || isLast l at) (eq-eqb (rowIn m at .kind) 0 (ap (λ (z : Row). z .kind) (sym q) ∙ h))))
+  more : false ≡ (eqb (rowIn m at .kind) 0 || isLast l at) → LineAt l m at (line.More (rowIn m at) next)
+  more h = record { same = all false (sym h); onward = λ y after q. let z : next ≡ after = cc in (omega (arith, was .after), omega (arith, line-inside)) }
 
-  pub line-last : (y : Row) → y ≡ rowIn m at → true ≡ isLast l at → LineAt l m at (line.Last y)
-  line-last y q h = rw q (last (ap (λ (b : Bool). eqb (rowIn m at .kind) 0 || b) (sym h) ∙ or-true (eqb (rowIn m at .kind) 0)))
+  module _ (y : Row) (q : y ≡ rowIn m at) where
+    kinds : (eqb (y .kind) 0 || isLast l at) ≡ (eqb (rowIn m at .kind) 0 || isLast l at)
+    kinds = ap (λ (z : Row). eqb (z .kind) 0 || isLast l at) q
 
-  more : (rowIn m at .kind ≡ 0 → ⊥) → false ≡ isLast l at → LineAt l m at (line.More (rowIn m at) next)
-  more n h =
-      record {
-        same = all false (ap (λ (b : Bool). b || isLast l at) (ne-eqb (rowIn m at .kind) 0 n) ∙ sym h);
-        onward = λ y after q. let z : next ≡ after = cc in (omega (arith, was .after), omega (arith, line-inside));
-      }
+    pub line-last : true ≡ (eqb (y .kind) 0 || isLast l at) → LineAt l m at (line.Last y)
+    line-last h = rw q (last (h ∙ kinds))
 
-  pub line-more : (y : Row) → y ≡ rowIn m at → (y .kind ≡ 0 → ⊥) → false ≡ isLast l at → LineAt l m at (line.More y next)
-  line-more y q n h = rw q (more (λ z. n (ap (λ (w : Row). w .kind) q ∙ z)) h)
+    pub line-more : false ≡ (eqb (y .kind) 0 || isLast l at) → LineAt l m at (line.More y next)
+    line-more h = rw q (more (h ∙ kinds))
 
 -- ---- an answer that refuses no record ends no listing
 

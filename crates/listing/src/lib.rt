@@ -6,10 +6,11 @@ use record::Parsed;
 use request::Answer;
 use request::Request;
 ghost use mathlib.Core.Path.{_≡_};
+ghost use mathlib.Core.Bool.{_||_};
 ghost use mathlib.Core.List.{[], _∷_, _++_};
 ghost use Prim.Native.Nat.{_+_, _≤_};
 ghost use lib.ListN.{length};
-ghost use lib.Dec.{leb};
+ghost use lib.Dec.{leb, eqb};
 ghost use Rattle.wire.specs.Over.{Put, Tried};
 ghost use Rattle.nts.specs.Refusal.{toldCode, toldRefusal};
 ghost use Rattle.record.specs.Record.{kindOf, criticalOf};
@@ -125,10 +126,7 @@ fn line_at(message: &[u8], answer: Answer, at: usize) -> Line
     match parsed {
         Parsed::Read(x) => {
             let row = row_at(message, at);
-            if row.kind == NtsRecord::END_OF_MESSAGE {
-                return Line::Last(row);
-            }
-            if is_last(answer, at) {
+            if ends(row.kind, answer, at) {
                 return Line::Last(row);
             }
             Line::More(row, x.next.at)
@@ -159,6 +157,16 @@ fn is_critical(word: u16) -> bool
     ensures { λ r. ⌜ r ≡ criticalOf word ⌝ }
 {
     word & NtsRecord::CRITICAL_BIT != 0
+}
+
+// Whether the listing ends with the record at this place.
+fn ends(kind: u16, answer: Answer, at: usize) -> bool
+    ensures { λ r. ⌜ r ≡ (eqb kind 0 || isLast (lastOf (toldAnswer answer)) at) ⌝ }
+{
+    if kind == NtsRecord::END_OF_MESSAGE {
+        return true;
+    }
+    is_last(answer, at)
 }
 
 // Whether the answer is a refusal of the record at this place.

@@ -3,7 +3,7 @@
 use mathlib.Core.Path.{sym, ap, _∙_}
 use Rattle.record.specs.Told.{toldParsed}
 use Rattle.listing.specs.Listing.{none}
-use Rattle.listing.proofs.Lines.{line-none, line-header, line-end, line-last, line-more}
+use Rattle.listing.proofs.Lines.{line-none, line-header, line-last, line-more}
 use borrow.Author.Needs.{needs}
 use Rattle.listing.proofs.line_at.Statement.{statement}
 use Rattle.listing.proofs.line_at.Tie as tie
@@ -17,23 +17,20 @@ enum-known-parsed c = search needs
 row-at-requires : tie.Need-row-at-requires
 row-at-requires c κs = line-header none _ _ _ _ (ap toldParsed (sym (c .before .parsed .given .1)) ∙ c .before .before .before .parse .ensures)
 
+ends-requires : tie.Need-ends-requires
+ends-requires c κs = search needs
+
 returns : tie.Need-returns
-returns c = line-end _ _ _ _ _ (ap toldParsed (sym (c .before .before .before .before .parsed .given .1)) ∙ c .before .before .before .before .before .before .parse .ensures) _ (c .before .before .row-at .ensures) (c .if1 .taken)
-
-is-last-requires : tie.Need-is-last-requires
-is-last-requires c κs = search needs
-
-returns-2 : tie.Need-returns-2
-returns-2 c = line-last _ _ _ _ _ (ap toldParsed (sym (c .before .before .before .before .before .before .parsed .given .1)) ∙ c .before .before .before .before .before .before .before .before .parse .ensures) _ (c .before .before .before .before .row-at .ensures) (sym (c .if2 .taken) ∙ c .before .is-last .ensures)
+returns c = line-last _ _ _ _ _ (ap toldParsed (sym (c .before .before .before .before .parsed .given .1)) ∙ c .before .before .before .before .before .before .parse .ensures) _ (c .before .before .row-at .ensures) (sym (c .if1 .taken) ∙ c .before .ends .ensures)
 
 enum-told : tie.Need-enum-told
 enum-told c = search needs
 
-returns-3 : tie.Need-returns-3
-returns-3 c = line-more _ _ _ _ _ (ap toldParsed (sym (c .before .before .before .before .before .before .parsed .given .1)) ∙ c .before .before .before .before .before .before .before .before .parse .ensures) _ (c .before .before .before .before .row-at .ensures) (c .before .before .if1 .left) (sym (c .if2 .left) ∙ c .before .is-last .ensures)
+returns-2 : tie.Need-returns-2
+returns-2 c = line-more _ _ _ _ _ (ap toldParsed (sym (c .before .before .before .before .parsed .given .1)) ∙ c .before .before .before .before .before .before .parse .ensures) _ (c .before .before .row-at .ensures) (sym (c .if1 .left) ∙ c .before .ends .ensures)
 
-returns-4 : tie.Need-returns-4
-returns-4 c = line-none _ _ _ _ (ap toldParsed (sym (c .enum-told .given .1)) ∙ c .before .before .parse .ensures)
+returns-3 : tie.Need-returns-3
+returns-3 c = line-none _ _ _ _ (ap toldParsed (sym (c .enum-told .given .1)) ∙ c .before .before .parse .ensures)
 
 pub line-at-spec : {M : Type 1} → statement M
 line-at-spec =
@@ -42,9 +39,8 @@ line-at-spec =
     parse-requires
     enum-known-parsed
     row-at-requires
+    ends-requires
     returns
-    is-last-requires
-    returns-2
     enum-told
-    returns-3
-    returns-4)
+    returns-2
+    returns-3)
