@@ -7,9 +7,9 @@ use std::io::{self, BufRead, BufReader, Write};
 use crate::corpus::{self, Cases};
 
 /// An outcome that can occur must have this many cases.
-const LEAST: u64 = 100;
+pub const LEAST: u64 = 100;
 /// So many differences of a corpus are shown.
-const SHOWN: u64 = 10;
+pub const SHOWN: u64 = 10;
 /// So many bytes of a case and letters of a line are shown.
 const WIDTH: usize = 400;
 
@@ -55,13 +55,13 @@ const NO_RECORD: [&str; 11] = [
     "refused 9 for a part",
 ];
 
-fn open(path: &str) -> io::Result<BufReader<File>> {
+pub fn open(path: &str) -> io::Result<BufReader<File>> {
     let file = File::open(path).map_err(|error| io::Error::other(format!("{path}: {error}")))?;
     Ok(BufReader::with_capacity(1 << 20, file))
 }
 
 /// Reads a line without its end; false where there is none.
-fn next_line(input: &mut impl BufRead, line: &mut Vec<u8>) -> io::Result<bool> {
+pub fn next_line(input: &mut impl BufRead, line: &mut Vec<u8>) -> io::Result<bool> {
     line.clear();
     let found = input.read_until(b'\n', line)? > 0;
     if line.last() == Some(&b'\n') {
@@ -122,16 +122,21 @@ fn show(
     theirs: &[u8],
     ours: &[u8],
 ) -> io::Result<()> {
-    let payload = &cases.payload;
-    let hex: String = payload.iter().take(WIDTH).map(|byte| format!("{byte:02x}")).collect();
-    let rest = if payload.len() > WIDTH { ".." } else { "" };
     let op = char::from(cases.op).escape_default();
-    writeln!(out, "{name}, case {index}: op {op}, {} bytes {hex}{rest}", payload.len())?;
-    for (who, line) in [("crate", theirs), ("probe", ours)] {
-        let rest = if line.len() > WIDTH { ".." } else { "" };
-        writeln!(out, "  {who}: {}{rest}", String::from_utf8_lossy(&line[..line.len().min(WIDTH)]))?;
-    }
-    Ok(())
+    writeln!(out, "{name}, case {index}: op {op}, {}", hexadecimal(&cases.payload))?;
+    writeln!(out, "  crate: {}\n  probe: {}", shortened(theirs), shortened(ours))
+}
+
+/// The number of bytes, and the first of them in hexadecimal.
+pub fn hexadecimal(bytes: &[u8]) -> String {
+    let hex: String = bytes.iter().take(WIDTH).map(|byte| format!("{byte:02x}")).collect();
+    format!("{} bytes {hex}{}", bytes.len(), if bytes.len() > WIDTH { ".." } else { "" })
+}
+
+/// A line's first letters.
+pub fn shortened(line: &[u8]) -> String {
+    let rest = if line.len() > WIDTH { ".." } else { "" };
+    format!("{}{rest}", String::from_utf8_lossy(&line[..line.len().min(WIDTH)]))
 }
 
 /// Adds a case to its outcome's count.

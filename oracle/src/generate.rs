@@ -1,6 +1,7 @@
 //! Makes the corpora. Each is the same for the same seed.
 
 mod names;
+mod orders;
 mod records;
 mod requests;
 mod tokens;
@@ -34,6 +35,7 @@ pub fn corpus(name: &str, seed: u64, count: Option<u64>, out: &mut impl Write) -
         "tokens" => tokens::up_to_three(out)?,
         "tokens4" => tokens::of_four(out)?,
         "requests" => requests::requests(seed, count.unwrap_or(300_000), out)?,
+        "orders" => orders::orders(seed, count.unwrap_or(20_000), out)?,
         "writes" => writes::writes(seed, count.unwrap_or(200_000), out)?,
         _ => return Err(io::Error::other(format!("no corpus is named {name}"))),
     }

@@ -3,6 +3,7 @@
 mod compare;
 mod corpus;
 mod generate;
+mod orders;
 mod packet;
 mod random;
 mod samples;
@@ -32,6 +33,7 @@ const USAGE: &str = "usage:
   oracle compare NAME CORPUS CRATE PROBE TALLY
                                              compares two files of answers and adds to the file TALLY
   oracle total TALLY [any]                   sums up; `any` asks for no least number of cases an outcome
+  oracle orders CORPUS CRATE PROBE [failed]  judges two files of answers to the corpus orders; `failed`: the probe did
   oracle pick CORPUS INDEX                   writes that case of a corpus alone";
 
 fn main() -> ExitCode {
@@ -59,6 +61,8 @@ fn run(args: &[&str]) -> io::Result<bool> {
         }
         ["total", tally] => compare::total(tally, true, &mut out)?,
         ["total", tally, "any"] => compare::total(tally, false, &mut out)?,
+        ["orders", corpus, crates, probes] => orders::judge(corpus, crates, probes, false, &mut out)?,
+        ["orders", corpus, crates, probes, "failed"] => orders::judge(corpus, crates, probes, true, &mut out)?,
         ["pick", corpus, index] => compare::pick(corpus, number(index)?, &mut out)?,
         _ => {
             eprintln!("{USAGE}");

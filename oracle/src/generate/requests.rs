@@ -9,10 +9,10 @@ use crate::corpus::put;
 use crate::random::Random;
 
 const CRATES_LIMIT: usize = 4096;
-const LARGEST_LIMIT: usize = 65_535;
+pub const LARGEST_LIMIT: usize = 65_535;
 /// Cells of the largest table, and the names that it holds.
 const CELLS: usize = 2048;
-const NAMES: usize = CELLS / 2;
+pub const NAMES: usize = CELLS / 2;
 
 pub fn requests(seed: u64, count: u64, out: &mut impl Write) -> io::Result<()> {
     let mut random = Random::new(seed, "requests");
@@ -58,7 +58,7 @@ fn one_op(random: &mut Random, out: &mut impl Write, message: &[u8]) -> io::Resu
 }
 
 /// The records of a request, in any order, and its number of denied names. Most are accepted.
-fn request(random: &mut Random) -> (Vec<Vec<u8>>, usize) {
+pub fn request(random: &mut Random) -> (Vec<Vec<u8>>, usize) {
     let mut records = match random.below(4) {
         0 => fixed_key(random),
         1 => support(random),
@@ -77,12 +77,12 @@ fn request(random: &mut Random) -> (Vec<Vec<u8>>, usize) {
 }
 
 /// A kind's type word, with either bit.
-fn word(random: &mut Random, kind: u16) -> u16 {
+pub fn word(random: &mut Random, kind: u16) -> u16 {
     kind | (random.below(2) as u16) << 15
 }
 
 /// A list of numbers, mostly of one.
-fn list(random: &mut Random, kind: u16) -> Vec<u8> {
+pub fn list(random: &mut Random, kind: u16) -> Vec<u8> {
     let count = if random.once_in(2) { 1 } else { random.below(5) };
     let mut body = Vec::new();
     for _ in 0..count {
@@ -92,7 +92,7 @@ fn list(random: &mut Random, kind: u16) -> Vec<u8> {
     record(word(random, kind), body.len(), &body)
 }
 
-fn short_name(random: &mut Random, kind: u16) -> Vec<u8> {
+pub fn short_name(random: &mut Random, kind: u16) -> Vec<u8> {
     let size = random.below(12);
     let body = name(random, size);
     record(word(random, kind), size, &body)
@@ -124,7 +124,7 @@ fn fixed_key(random: &mut Random) -> Vec<Vec<u8>> {
 }
 
 /// The records of a support request.
-fn support(random: &mut Random) -> Vec<Vec<u8>> {
+pub fn support(random: &mut Random) -> Vec<Vec<u8>> {
     let mut records = vec![short_name(random, 14)];
     let wanted = random.between(1, 3);
     if wanted & 1 != 0 {
@@ -139,7 +139,7 @@ fn support(random: &mut Random) -> Vec<Vec<u8>> {
 }
 
 /// A record that changes no request but for keep-alive.
-fn passed_over(random: &mut Random) -> Vec<u8> {
+pub fn passed_over(random: &mut Random) -> Vec<u8> {
     match random.below(4) {
         0 => {
             let size = random.below(4);
@@ -158,13 +158,13 @@ fn unknown(random: &mut Random, bit: u16) -> Vec<u8> {
     record(kind | bit << 15, size, &random.bytes(size))
 }
 
-fn end(random: &mut Random) -> Vec<u8> {
+pub fn end(random: &mut Random) -> Vec<u8> {
     let size = if random.once_in(8) { random.below(5) } else { 0 };
     let body = random.bytes(size);
     record(word(random, 0), size, &body)
 }
 
-fn shuffle(random: &mut Random, records: &mut [Vec<u8>]) {
+pub fn shuffle(random: &mut Random, records: &mut [Vec<u8>]) {
     for last in (1..records.len()).rev() {
         records.swap(last, random.below(last + 1));
     }

@@ -1,0 +1,297 @@
+//! Demand 3 by running: judges the answers to the corpus `orders`. In it an accepted request stands before its three
+//! variants; that they are such is found here from the messages' own bytes, not taken from what made them.
+
+use std::collections::BTreeMap;
+use std::fmt;
+use std::io::{self, BufRead, Write};
+
+use crate::compare::{LEAST, SHOWN, hexadecimal, next_line, open, shortened};
+use crate::corpus::Cases;
+use crate::generate::{CRITICAL, is_known};
+
+const LARGEST_LIMIT: usize = 65_535;
+/// The limit of the crate's own file; a longer message is read by the copy.
+const CRATES_LIMIT: usize = 4096;
+
+/// The messages of a group, in the corpus' order.
+const SORTS: [&str; 4] = [
+    "original",
+    "variant in another order",
+    "variant with an unknown record, bit clear",
+    "variant with an unknown record, bit set",
+];
+
+/// The originals that are asked for.
+const REQUESTS: [&str; 8] = [
+    "key-exchange without denied names",
+    "key-exchange with one denied name",
+    "key-exchange with two or more denied names",
+    "fixed-key with algorithm 15",
+    "fixed-key with algorithm 17",
+    "support for protocols",
+    "support for algorithms",
+    "support for both",
+];
+
+/// Messages and, in the same order, the lines that answer them.
+type Messages = [Vec<u8>; SORTS.len()];
+
+/// Judges the crate's and the probe's answers, tells the first wrong ones and what was counted; false where an answer is
+/// wrong, answers are missing or too many, something counted is too little, or the probe is said to have failed.
+pub fn judge(corpus: &str, crates: &str, probes: &str, failed: bool, out: &mut impl Write) -> io::Result<bool> {
+    let mut cases = Cases::new(open(corpus)?);
+    let mut answers = [("crate", open(crates)?), ("probe", open(probes)?)];
+    let mut counts = Counts::default();
+    while let Some(messages) = group(&mut cases)? {
+        let first = counts.groups * SORTS.len() as u64;
+        let found = Group::of(&messages).map_err(|fault| {
+            io::Error::other(format!("the corpus is none of orders: case {first} or one of the next three: {fault}"))
+        })?;
+        counts.add(&found, &messages);
+        let mut crates_original = None;
+        for (who, lines) in &mut answers {
+            let Some(lines) = group_of_lines(lines)? else {
+                writeln!(out, "case {first} and those after it: not all have an answer of the {who}")?;
+                counts.wrong += 1;
+                return counts.told(true, out);
+            };
+            for (index, line) in lines.iter().enumerate() {
+                let expected = found.expected(index, &lines, crates_original.as_ref());
+                if expected.met_by(line) {
+                    continue;
+                }
+                counts.wrong += 1;
+                if counts.wrong <= SHOWN {
+                    let (case, sort) = (first + index as u64, SORTS[index]);
+                    writeln!(out, "case {case}, {sort}: {}", hexadecimal(&messages[index]))?;
+                    if index > 0 {
+                        writeln!(out, "  original: {}", hexadecimal(&messages[0]))?;
+                    }
+                    writeln!(out, "  expected: {expected}\n  {who}: {}", shortened(line))?;
+                }
+            }
+            crates_original = crates_original.or_else(|| lines.into_iter().next());
+        }
+    }
+    for (who, lines) in &mut answers {
+        if next_line(lines, &mut Vec::new())? {
+            writeln!(out, "the {who} gave more answers than there are messages")?;
+            counts.wrong += 1;
+        }
+    }
+    counts.told(failed, out)
+}
+
+#[derive(Default)]
+struct Counts {
+    /// Originals, each with its variants.
+    groups: u64,
+    /// Originals by their request.
+    requests: BTreeMap<&'static str, u64>,
+    /// Variants in an order that is not their original's.
+    reordered: u64,
+    /// Messages that the crate's own file would cut.
+    long: usize,
+    /// Wrong answers of the crate and of the probe.
+    wrong: u64,
+}
+
+impl Counts {
+    fn add(&mut self, found: &Group, messages: &Messages) {
+        self.groups += 1;
+        *self.requests.entry(found.request).or_default() += 1;
+        self.reordered += u64::from(found.reordered);
+        self.long += messages.iter().filter(|message| message.len() > CRATES_LIMIT).count();
+    }
+
+    /// Writes what was counted; false where something is wrong, too little or said to have failed.
+    fn told(&self, failed: bool, out: &mut impl Write) -> io::Result<bool> {
+        let requests = REQUESTS.map(|request| (request, self.requests.get(request).copied().unwrap_or_default()));
+        let variants = SORTS[1..].iter().map(|&sort| (sort, self.groups));
+        let reordered = [("originals with an order that is not their own", self.reordered)];
+        let mut good = self.wrong == 0 && !failed;
+        for (what, number) in requests.into_iter().chain(variants).chain(reordered) {
+            let few = number < LEAST;
+            good &= !few;
+            writeln!(out, "{what}: {number}{}", if few { ", too few" } else { "" })?;
+        }
+        writeln!(
+            out,
+            "messages over {CRATES_LIMIT} bytes, read by the copy and not the crate's own file: {}",
+            self.long
+        )?;
+        let messages = self.groups * (SORTS.len() as u64 - 1);
+        let end = if good { "" } else { ": FAILED" };
+        writeln!(out, "{messages} messages in other orders, {} differ{end}", self.wrong)?;
+        Ok(good)
+    }
+}
+
+/// The next messages; none where the corpus is at its end.
+fn group(cases: &mut Cases<impl BufRead>) -> io::Result<Option<Messages>> {
+    let mut messages = Messages::default();
+    for (index, message) in messages.iter_mut().enumerate() {
+        if !cases.advance()? {
+            return if index == 0 { Ok(None) } else { Err(io::Error::other("the corpus ends between variants")) };
+        }
+        if cases.op != b'Q' || cases.too_long {
+            return Err(io::Error::other("the corpus has a case that is no message of op Q"));
+        }
+        *message = std::mem::take(&mut cases.payload);
+    }
+    Ok(Some(messages))
+}
+
+/// The next lines; none where there are too few.
+fn group_of_lines(input: &mut impl BufRead) -> io::Result<Option<Messages>> {
+    let mut lines = Messages::default();
+    for line in &mut lines {
+        if !next_line(input, line)? {
+            return Ok(None);
+        }
+    }
+    Ok(Some(lines))
+}
+
+/// What the bytes of an original and its variants tell.
+struct Group {
+    /// One of `REQUESTS`.
+    request: &'static str,
+    /// Whether the other order is not the original's own.
+    reordered: bool,
+    /// The place of the record put in with its bit set.
+    place: usize,
+}
+
+impl Group {
+    fn of(messages: &Messages) -> Result<Self, &'static str> {
+        let walk = |message| Walk::of(message).ok_or("a message has no end record within the limit");
+        let [original, other] = [walk(&messages[0])?, walk(&messages[1])?];
+        if original.sorted() != other.sorted() || original.end != other.end {
+            return Err("the other order has other records");
+        }
+        if !original.of_kind(13).eq(other.of_kind(13)) {
+            return Err("the denied names are in another order");
+        }
+        if original.tail == other.tail {
+            return Err("the other order has the same tail");
+        }
+        original.put_in(&walk(&messages[2])?, 0)?;
+        let place = original.put_in(&walk(&messages[3])?, CRITICAL)?;
+        let request = original.request().ok_or("the original's records are those of no request")?;
+        Ok(Self { request, reordered: original.records != other.records, place })
+    }
+
+    /// What a line must be, given those of all four messages and, for the probe, the crate's for the original.
+    fn expected<'a>(&self, index: usize, lines: &'a Messages, crates_original: Option<&'a Vec<u8>>) -> Expected<'a> {
+        match (index, crates_original) {
+            (0, Some(line)) => Expected::Line(line),
+            (0, None) => Expected::Word(self.request.split(' ').next().expect("a word")),
+            (1 | 2, _) => Expected::Line(&lines[0]),
+            _ => Expected::Refused(self.place),
+        }
+    }
+}
+
+/// What a line must be.
+enum Expected<'a> {
+    /// Beginning with this word: accepted, as that request.
+    Word(&'a str),
+    /// This one.
+    Line(&'a [u8]),
+    /// Refusal 3 at this place.
+    Refused(usize),
+}
+
+impl Expected<'_> {
+    fn met_by(&self, line: &[u8]) -> bool {
+        match self {
+            Self::Word(word) => line.split(|&byte| byte == b' ').next() == Some(word.as_bytes()),
+            Self::Line(expected) => line == *expected,
+            Self::Refused(_) => line == self.to_string().as_bytes(),
+        }
+    }
+}
+
+impl fmt::Display for Expected<'_> {
+    fn fmt(&self, f: &mut fmt::Formatter<'_>) -> fmt::Result {
+        match self {
+            Self::Word(word) => write!(f, "{word} .."),
+            Self::Line(line) => write!(f, "{}", shortened(line)),
+            Self::Refused(place) => write!(f, "refused 3 at {place}"),
+        }
+    }
+}
+
+/// A message's records before its end record, that record, and what stands after it.
+struct Walk<'a> {
+    records: Vec<&'a [u8]>,
+    end: &'a [u8],
+    tail: &'a [u8],
+}
+
+impl<'a> Walk<'a> {
+    /// Walks by the records' sizes; none where there is no end record within the limit.
+    fn of(message: &'a [u8]) -> Option<Self> {
+        let mut records = Vec::new();
+        let mut rest = message;
+        loop {
+            let &[_, _, high, low] = rest.first_chunk()?;
+            let (record, behind) = rest.split_at_checked(4 + usize::from(u16::from_be_bytes([high, low])))?;
+            if kind(record) == 0 {
+                let within = message.len() - behind.len() <= LARGEST_LIMIT;
+                return within.then_some(Self { records, end: record, tail: behind });
+            }
+            records.push(record);
+            rest = behind;
+        }
+    }
+
+    fn sorted(&self) -> Vec<&'a [u8]> {
+        let mut records = self.records.clone();
+        records.sort_unstable();
+        records
+    }
+
+    fn of_kind(&self, wanted: u16) -> impl Iterator<Item = &'a [u8]> {
+        self.records.iter().copied().filter(move |record| kind(record) == wanted)
+    }
+
+    /// The place of the one record that the other message has and this one has not: an unknown one with that bit.
+    fn put_in(&self, other: &Walk, bit: u16) -> Result<usize, &'static str> {
+        let all = [&self.records[..], &[self.end]].concat();
+        let mut others = [&other.records[..], &[other.end]].concat();
+        let at = all.iter().zip(&others).position(|(ours, theirs)| ours != theirs).ok_or("no record was put in")?;
+        let place = others[..at].concat().len();
+        let inserted = others.remove(at);
+        if others != all || is_known(kind(inserted)) || word(inserted) & CRITICAL != bit {
+            return Err("not one unknown record was put in, with its bit");
+        }
+        Ok(place)
+    }
+
+    /// The request that the records are; it is not tested here that it is accepted.
+    fn request(&self) -> Option<&'static str> {
+        let has = |kind| self.of_kind(kind).next().is_some();
+        match (has(9), has(10), has(12)) {
+            (true, true, _) => Some(REQUESTS[7]),
+            (false, true, _) => Some(REQUESTS[6]),
+            (true, false, _) => Some(REQUESTS[5]),
+            (false, false, true) => match self.of_kind(4).next()?[4..] {
+                [0, 15] => Some(REQUESTS[3]),
+                [0, 17] => Some(REQUESTS[4]),
+                _ => None,
+            },
+            _ => Some(REQUESTS[self.of_kind(13).count().min(2)]),
+        }
+    }
+}
+
+/// A record's type word.
+fn word(record: &[u8]) -> u16 {
+    u16::from_be_bytes([record[0], record[1]])
+}
+
+fn kind(record: &[u8]) -> u16 {
+    word(record) & !CRITICAL
+}
