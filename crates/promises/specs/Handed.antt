@@ -8,7 +8,7 @@ use Rattle.request.specs.declared.Request.{Request}
 use Rattle.request.specs.declared.Request.the-variants.{KeyExchange, FixedKey, Support}
 use Rattle.request.specs.Request.{nameIn}
 
--- bytes and numbers, and no place
+-- bytes and numbers, and no place; the case is the request's kind
 pub data Shown : Type 0 where
   -- protocols, algorithms, how many names are denied, and the names in their order
   keyExchange : List ℕ → List ℕ → ℕ → List (List ℕ) → Shown
