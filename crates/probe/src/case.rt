@@ -1,11 +1,11 @@
 // Numbers in a case's payload, big-endian; a byte past its end counts as 0.
 ghost use Prim.Native.Nat.{_<_, _^_};
 
-pub fn number16(s: &[u8], i: usize) -> u16 {
+pub(super) fn number16(s: &[u8], i: usize) -> u16 {
     wire::number_at(s, i)
 }
 
-pub fn number32(s: &[u8], i: usize) -> usize
+pub(super) fn number32(s: &[u8], i: usize) -> usize
     ensures { λ r. ⌜ r < 2 ^ 32 ⌝ }
 {
     if i < s.len() {
@@ -14,7 +14,7 @@ pub fn number32(s: &[u8], i: usize) -> usize
     0
 }
 
-pub fn number64(s: &[u8], i: usize) -> usize {
+pub(super) fn number64(s: &[u8], i: usize) -> usize {
     if i < s.len() {
         return number32(s, i) * 4294967296 + number32(s, i + 4);
     }

@@ -5,7 +5,7 @@ const BYTE: u8 = 0xA5;
 
 const CELL: u16 = 0xA5A5;
 
-pub fn fill(dst: &mut [u8]) {
+pub(super) fn fill(dst: &mut [u8]) {
     let mut i = 0;
     while i < dst.len() {
         dst[i] = BYTE;
@@ -14,7 +14,7 @@ pub fn fill(dst: &mut [u8]) {
 }
 
 // Whether the bytes from a place on are as they were lent.
-pub fn is_filled(dst: &[u8], from: usize) -> bool {
+pub(super) fn is_filled(dst: &[u8], from: usize) -> bool {
     let mut i = from;
     while i < dst.len() {
         if dst[i] != BYTE {
@@ -25,7 +25,7 @@ pub fn is_filled(dst: &[u8], from: usize) -> bool {
     true
 }
 
-pub fn fill_cells(table: &mut [u16]) {
+pub(super) fn fill_cells(table: &mut [u16]) {
     let mut i = 0;
     while i < table.len() {
         table[i] = CELL;
@@ -33,7 +33,7 @@ pub fn fill_cells(table: &mut [u16]) {
     }
 }
 
-pub fn are_filled(table: &[u16], from: usize) -> bool {
+pub(super) fn are_filled(table: &[u16], from: usize) -> bool {
     let mut i = from;
     while i < table.len() {
         if table[i] != CELL {
@@ -44,7 +44,7 @@ pub fn are_filled(table: &[u16], from: usize) -> bool {
     true
 }
 
-pub fn put_changed(out: &mut [u8], at: usize, unchanged: bool) -> usize {
+pub(super) fn put_changed(out: &mut [u8], at: usize, unchanged: bool) -> usize {
     if unchanged {
         return at;
     }

@@ -56,7 +56,7 @@ fn put_at(kind: u16, out: &mut [u8], at: usize, message: &[u8], list: Part, inde
 }
 
 // The list of a kind, between brackets.
-pub fn put_list(kind: u16, out: &mut [u8], at: usize, message: &[u8], list: Part) -> usize {
+pub(super) fn put_list(kind: u16, out: &mut [u8], at: usize, message: &[u8], list: Part) -> usize {
     let mut to = text::put(out, at, b'[');
     let mut i = 0;
     let n = list.len / 2;
@@ -146,7 +146,7 @@ fn put_read(out: &mut [u8], at: usize, message: &[u8], x: Reading) -> usize {
 }
 
 // Op r: the record at the front of the payload, read by a new cursor.
-pub fn at_front(case: &[u8], out: &mut [u8], at: usize) -> usize {
+pub(super) fn at_front(case: &[u8], out: &mut [u8], at: usize) -> usize {
     let answer = Cursor::new().read(case);
     match answer {
         Parsed::Read(x) => put_read(out, at, case, x),
@@ -158,7 +158,7 @@ pub fn at_front(case: &[u8], out: &mut [u8], at: usize) -> usize {
 }
 
 // Op R: a place, and the message.
-pub fn at_place(case: &[u8], out: &mut [u8], at: usize) -> usize {
+pub(super) fn at_place(case: &[u8], out: &mut [u8], at: usize) -> usize {
     if case.len() < 8 {
         return text::bad_case(out, at);
     }
@@ -172,7 +172,7 @@ pub fn at_place(case: &[u8], out: &mut [u8], at: usize) -> usize {
 }
 
 // Op i: a start, a length, and the message.
-pub fn part_of(case: &[u8], out: &mut [u8], at: usize) -> usize {
+pub(super) fn part_of(case: &[u8], out: &mut [u8], at: usize) -> usize {
     if case.len() < 16 {
         return text::bad_case(out, at);
     }
@@ -184,7 +184,7 @@ pub fn part_of(case: &[u8], out: &mut [u8], at: usize) -> usize {
 }
 
 // Op j: an index, and the list.
-pub fn number_of(case: &[u8], out: &mut [u8], at: usize) -> usize {
+pub(super) fn number_of(case: &[u8], out: &mut [u8], at: usize) -> usize {
     if case.len() < 8 {
         return text::bad_case(out, at);
     }

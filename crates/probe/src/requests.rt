@@ -168,12 +168,18 @@ fn put_answer(message: &[u8], limit: u16, table: &mut [u16], out: &mut [u8], at:
 }
 
 // Ops q and Q: a message, with this limit and all of the table.
-pub fn under(limit: u16, case: &[u8], table: &mut [u16], out: &mut [u8], at: usize) -> usize {
+pub(super) fn under(
+    limit: u16,
+    case: &[u8],
+    table: &mut [u16],
+    out: &mut [u8],
+    at: usize,
+) -> usize {
     put_answer(case, limit, table, out, at)
 }
 
 // Op L: a limit, a number of cells, and the message.
-pub fn limited(case: &[u8], table: &mut [u16], out: &mut [u8], at: usize) -> usize {
+pub(super) fn limited(case: &[u8], table: &mut [u16], out: &mut [u8], at: usize) -> usize {
     if case.len() < 4 {
         return text::bad_case(out, at);
     }

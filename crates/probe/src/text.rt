@@ -3,7 +3,7 @@ use nts::Code;
 use nts::NtsError;
 use nts::Refusal;
 
-pub fn put(out: &mut [u8], at: usize, b: u8) -> usize {
+pub(super) fn put(out: &mut [u8], at: usize, b: u8) -> usize {
     if at < out.len() {
         out[at] = b;
         return at + 1;
@@ -11,7 +11,7 @@ pub fn put(out: &mut [u8], at: usize, b: u8) -> usize {
     at
 }
 
-pub fn put_text(out: &mut [u8], at: usize, text: &[u8]) -> usize {
+pub(super) fn put_text(out: &mut [u8], at: usize, text: &[u8]) -> usize {
     let mut to = at;
     let mut i = 0;
     while i < text.len() {
@@ -21,7 +21,7 @@ pub fn put_text(out: &mut [u8], at: usize, text: &[u8]) -> usize {
     to
 }
 
-pub fn put_decimal(out: &mut [u8], at: usize, n: u64) -> usize {
+pub(super) fn put_decimal(out: &mut [u8], at: usize, n: u64) -> usize {
     let mut digits = [0u8; 20];
     let k = io::decimal(n, &mut digits);
     put_text(out, at, &digits[..k])
@@ -38,7 +38,7 @@ fn glyph(d: u8) -> u8 {
 }
 
 // The bytes in hexadecimal, between angle brackets.
-pub fn put_bytes(out: &mut [u8], at: usize, bytes: &[u8]) -> usize {
+pub(super) fn put_bytes(out: &mut [u8], at: usize, bytes: &[u8]) -> usize {
     let mut to = put(out, at, b'<');
     let mut i = 0;
     while i < bytes.len() {
@@ -49,18 +49,18 @@ pub fn put_bytes(out: &mut [u8], at: usize, bytes: &[u8]) -> usize {
     put(out, to, b'>')
 }
 
-pub fn bad_case(out: &mut [u8], at: usize) -> usize {
+pub(super) fn bad_case(out: &mut [u8], at: usize) -> usize {
     put_text(out, at, b"bad case")
 }
 
 // "refused N", and " code C" where a code is returned.
-pub fn put_refusal(out: &mut [u8], at: usize, error: NtsError) -> usize {
+pub(super) fn put_refusal(out: &mut [u8], at: usize, error: NtsError) -> usize {
     let word = put_text(out, at, b"refused ");
     put_decimal(out, word, error.number() as u64)
 }
 
 // "refused N at P", and " code C" where a code is returned.
-pub fn put_refusal_at(out: &mut [u8], at: usize, refusal: Refusal) -> usize {
+pub(super) fn put_refusal_at(out: &mut [u8], at: usize, refusal: Refusal) -> usize {
     let error = refusal.error;
     let number = put_refusal(out, at, error);
     let word = put_text(out, number, b" at ");

@@ -141,7 +141,7 @@ fn put_written(item: NtsRecord, source: &[u8], dst: &mut [u8], out: &mut [u8], a
 }
 
 // Op w: a record, into an output of all the room.
-pub fn whole_room(case: &[u8], dst: &mut [u8], out: &mut [u8], at: usize) -> usize {
+pub(super) fn whole_room(case: &[u8], dst: &mut [u8], out: &mut [u8], at: usize) -> usize {
     let record = record_in(case, 0);
     match record {
         Given::Item(item) => put_written(item, case, dst, out, at),
@@ -150,7 +150,7 @@ pub fn whole_room(case: &[u8], dst: &mut [u8], out: &mut [u8], at: usize) -> usi
 }
 
 // Op W: the output's room, and a record.
-pub fn in_room(case: &[u8], dst: &mut [u8], out: &mut [u8], at: usize) -> usize {
+pub(super) fn in_room(case: &[u8], dst: &mut [u8], out: &mut [u8], at: usize) -> usize {
     if case.len() < 4 {
         return text::bad_case(out, at);
     }
@@ -166,7 +166,7 @@ pub fn in_room(case: &[u8], dst: &mut [u8], out: &mut [u8], at: usize) -> usize 
 }
 
 // Op X: a cookie's start and length, and the bytes that it may lie in.
-pub fn part_in(case: &[u8], dst: &mut [u8], out: &mut [u8], at: usize) -> usize {
+pub(super) fn part_in(case: &[u8], dst: &mut [u8], out: &mut [u8], at: usize) -> usize {
     if case.len() < 16 {
         return text::bad_case(out, at);
     }
@@ -178,7 +178,7 @@ pub fn part_in(case: &[u8], dst: &mut [u8], out: &mut [u8], at: usize) -> usize 
 }
 
 // Op z: a record's exact length.
-pub fn length_of(case: &[u8], out: &mut [u8], at: usize) -> usize {
+pub(super) fn length_of(case: &[u8], out: &mut [u8], at: usize) -> usize {
     let record = record_in(case, 0);
     match record {
         Given::Item(item) => {

@@ -38,7 +38,8 @@ unfoldable pub charSize : List (List (ℕ → Bool)) → List ℕ → ℕ
 charSize [] s = 0
 charSize (row ∷ more) s = cond (fits row s) (length row) (charSize more s)
 
--- UTF8-octets, after k more bytes of the character begun: one character after the other, to the end
+-- UTF8-octets, after k more bytes of the character begun: one character after the other, to the end. A character that a row fits is all
+-- there, so the end is never met inside one
 unfoldable pub octets : ℕ → List ℕ → Bool
 octets k [] = true
 octets (suc k) (b ∷ s) = octets k s
