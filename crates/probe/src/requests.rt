@@ -33,7 +33,7 @@ fn put_names(out: &mut [u8], at: usize, message: &[u8], table: &[u16], count: us
     let mut to = at;
     let mut i = 0;
     while i < count {
-        to = text::put_bytes(out, to, request::denied_name(message, table, i));
+        to = text::put_bytes(out, to, places::entry(message, table, i));
         i += 1;
     }
     to

@@ -2,10 +2,10 @@
 -- calls of request::Request::parse, of their answers and of the table's cells afterwards. Every accepted message is of the form that the
 -- theorems speak of: `accepted-is`. proofs/Examples.antt has messages to which they apply.
 -- Assumes nothing.
-use mathlib.Core.Path.{_≡_, sym, ap, _∙_}
+use mathlib.Core.Path.{_≡_}
 use mathlib.Core.List.{List, _∷_, _++_, List·Permᴰ}
 use mathlib.Core.Bool.{true, false}
-use Prim.Native.Nat.{ℕ, _+_, _/_, _≤_}
+use Prim.Native.Nat.{ℕ, _+_, _≤_}
 use lib.ListN.{length}
 use denote.Ref.{now}
 use Rattle.nts.specs.Refusal.{nothing, toldRefusal}
@@ -15,6 +15,7 @@ use Rattle.walk.specs.Walk.{Sighting}
 use Rattle.walk.specs.Judge.{bodyIn, refused, accepted}
 use Rattle.walk.specs.Message.{Whole, Record, End, Each, recordsOf, flat, message, Parts}
 use Rattle.walk.specs.Table.{known}
+use Rattle.places.specs.Places.{roomOf}
 use Rattle.request.specs.declared.Request.{Request}
 use Rattle.request.specs.declared.Answer.{Answer}
 use Rattle.request.specs.declared.Answer.the-variants.{Accepted, Refused}
@@ -22,7 +23,8 @@ use Rattle.request.specs.Request.{Form, mapForm, request, Reads}
 use Rattle.request.proofs.Order as order
 use Rattle.request.proofs.Request.parse.Reads as parse
 use Rattle.promises.specs.Handed.{handedOut}
-use Rattle.promises.proofs.Handing.{inHand, answered, answers, in-hand, refuses}
+use Rattle.promises.proofs.Handing.{request-face}
+use Rattle.promises.proofs.Calls.{same-in-hand, then-refused}
 
 -- ---- over the definition
 
@@ -75,24 +77,6 @@ called-reads m n table r after c = rw (← c .of-message, ← c .of-limit, ← c
 
 -- two calls under one limit, with tables of one length
 module _ (n : ℕ) (table table′ : List ℕ) (r r′ : Answer) (after after′ : List ℕ) (long : length table ≡ length table′) where
-  -- the definition shows the same bodies of both messages: then the calls hand out the same
-  same-in-hand : (m m′ : List ℕ) (x : Request) → Called m n table r after → Called m′ n table′ r′ after′ → r ≡ Accepted x
-      → ((q : Form Sighting) → request m n (length table / 2) ≡ accepted q → order.Shows m′ n (length table / 2) (mapForm (bodyIn m) q))
-      → (x′ : Request) × (r′ ≡ Accepted x′) × (handedOut m′ after′ x′ ≡ handedOut m after x)
-  same-in-hand m m′ x c c′ e law =
-      let k = called-reads m n table r after c in
-      let k′ = called-reads m′ n table′ r′ after′ c′ in
-      let q = answered m n table r after k x e in
-      let s = law (q .0) (q .1) in
-      let w : request m′ n (length table′ / 2) ≡ accepted (s .0) = ap (λ (j : ℕ). request m′ n (j / 2)) (sym long) ∙ s .1 in
-      let x′ = answers m′ n table′ r′ after′ k′ (s .0) w in (
-        x′ .0,
-        x′ .1,
-        in-hand m′ n table′ r′ after′ k′ (x′ .0) (s .0) (x′ .1) w
-            ∙ ap inHand (s .2)
-            ∙ sym (in-hand m n table r after k x (q .0) e (q .1)),
-      )
-
   -- the records of an accepted message in another order, denied names keeping theirs and cookies theirs: the second call accepts too, and what
   -- the two answers and tables hand out is the same
   pub parse-reordered : (cs cs′ : List (List ℕ)) (e t t′ : List ℕ) (x : Request)
@@ -101,8 +85,8 @@ module _ (n : ℕ) (table table′ : List ℕ) (r r′ : Answer) (after after′
       → r ≡ Accepted x
       → (x′ : Request) × (r′ ≡ Accepted x′) × (handedOut (message cs′ e t′) after′ x′ ≡ handedOut (message cs e t) after x)
   parse-reordered cs cs′ e t t′ x c c′ i l d names cookies h =
-      same-in-hand (message cs e t) (message cs′ e t′) x c c′ h
-      (λ q w. reordered n (length table / 2) cs cs′ e t t′ q i l d names cookies w)
+      same-in-hand request-face n table table′ r r′ after after′ (message cs e t) (message cs′ e t′) long (called-reads _ _ _ _ _ c) (called-reads _ _ _ _ _ c′) x h
+      (λ q w. reordered n (roomOf table) cs cs′ e t t′ q i l d names cookies w)
 
   -- a whole record more of unknown kind, its bit clear, and the message through its end still fits: the same
   pub parse-inserted : (xs ys : List (List ℕ)) (u e t t′ : List ℕ) (x : Request)
@@ -113,8 +97,8 @@ module _ (n : ℕ) (table table′ : List ℕ) (r r′ : Answer) (after after′
       → (x′ : Request) × (r′ ≡ Accepted x′)
       × (handedOut (message (xs ++ (u ∷ ys)) e t′) after′ x′ ≡ handedOut (message (xs ++ ys) e t) after x)
   parse-inserted xs ys u e t t′ x c c′ i l w k b f h =
-      same-in-hand (message (xs ++ ys) e t) (message (xs ++ (u ∷ ys)) e t′) x c c′ h
-      (λ q g. inserted n (length table / 2) xs ys u e t t′ q i l w k b f g)
+      same-in-hand request-face n table table′ r r′ after after′ (message (xs ++ ys) e t) (message (xs ++ (u ∷ ys)) e t′) long (called-reads _ _ _ _ _ c) (called-reads _ _ _ _ _ c′) x h
+      (λ q g. inserted n (roomOf table) xs ys u e t t′ q i l w k b f g)
 
   -- with its bit set: the second call refuses with 3 and nothing beside it, at that record, and leaves its table as it was
   pub parse-inserted-critical : (xs ys : List (List ℕ)) (u e t t′ : List ℕ) (x : Request)
@@ -125,15 +109,12 @@ module _ (n : ℕ) (table table′ : List ℕ) (r r′ : Answer) (after after′
       → (y : Refusal) × (r′ ≡ Refused y) × (toldRefusal y ≡ record { number = 3; beside = nothing; place = length (flat xs) })
       × (after′ ≡ table′)
   parse-inserted-critical xs ys u e t t′ x c c′ i l w k b f h =
-      let m = message (xs ++ ys) e t in
-      let m′ = message (xs ++ (u ∷ ys)) e t′ in
-      let q = answered m n table r after (called-reads m n table r after c) x h in
-      let no = inserted-critical n (length table / 2) xs ys u e t t′ (q .0) i l w k b f (q .1) in
-      refuses m′ n table′ r′ after′ (called-reads m′ n table′ r′ after′ c′) _ (ap (λ (j : ℕ). request m′ n (j / 2)) (sym long) ∙ no)
+      then-refused request-face n table table′ r r′ after after′ (message (xs ++ ys) e t) (message (xs ++ (u ∷ ys)) e t′) long (called-reads _ _ _ _ _ c) (called-reads _ _ _ _ _ c′) x h _
+      (λ q g. inserted-critical n (roomOf table) xs ys u e t t′ q i l w k b f g)
 
 -- what a call accepts is records, an end record through which it fits the limit, and a tail
 pub parse-accepted-is : (m : List ℕ) (n : ℕ) (table : List ℕ) (r : Answer) (after : List ℕ) (x : Request)
     → Called m n table r after → r ≡ Accepted x → Parts Record End m n
 parse-accepted-is m n table r after x c h =
-    let q = answered m n table r after (called-reads m n table r after c) x h in
-    accepted-is m n (length table / 2) (q .0) (q .1)
+    let q = request-face .answered m n table r after (called-reads m n table r after c) x h in
+    accepted-is m n (roomOf table) (q .0) (q .1)

@@ -1,30 +1,32 @@
 -- What a caller gets in hand of an accepted request is a function of the bodies that its definition shows: equal bodies, equal in hand.
 -- Assumes nothing.
 use mathlib.Core.Path.{_≡_, refl, sym, ap, _∙_}
-use mathlib.Core.List.{List, [], _∷_, _++_, map, append-assoc}
-use Prim.Native.Nat.{ℕ, _+_, _-_, _*_, _/_, _≤_}
+use mathlib.Core.List.{List, _++_}
+use Prim.Native.Nat.{ℕ, _+_, _-_, _/_, _≤_}
 use native.Mathlib.Omega.{arith}
 use borrow.Author.Tests.{le-leb}
-use lib.ListN.{length, getD, take, drop, length-append, length-drop, length-map}
-use lib.Seq.{length-take-le, take-take, take-add, drop-at, drop-drop, getD-at, getD-append-add}
+use lib.ListN.{length, take, drop, length-drop, length-map}
+use lib.Seq.{length-take-le, take-take, take-add, drop-at, drop-drop}
 use Rattle.wire.specs.Bytes.{numberAt, partAt}
 use Rattle.wire.specs.Over.{over}
 use Rattle.wire.proofs.Over.{over-none}
 use Rattle.nts.specs.Refusal.{Refused, toldRefusal}
 use Rattle.nts.specs.declared.Refusal.{Refusal}
 use Rattle.walk.specs.Walk.{Sighting}
-use Rattle.walk.specs.Judge.{bodyIn, refused, accepted}
+use Rattle.walk.specs.Judge.{bodyIn, partOf, refused, accepted}
 use Rattle.walk.specs.Judge as judge
-use Rattle.walk.proofs.Noted.{Inside}
+use Rattle.places.specs.Places.{cells, roomOf}
+use Rattle.places.proofs.Entries.{body-length, part-body, entries-back}
 use Rattle.request.specs.declared.Request.{Request}
 use Rattle.request.specs.declared.Request.the-variants.{KeyExchange, FixedKey, Support}
 use Rattle.request.specs.declared.Answer.{Answer}
 use Rattle.request.specs.declared.Answer.the-variants.{Accepted}
 use Rattle.request.specs.declared.Answer.the-variants as answer
-use Rattle.request.specs.Request.{Form, keyExchange, fixedKey, support, mapForm, request, partOf, firstHalf, secondHalf, toldForm, toldBy, toldRequest, toldAnswer, refusedWith, cells, namesOf, tableAfter, nameIn, Reads}
+use Rattle.request.specs.Request.{Form, keyExchange, fixedKey, support, mapForm, request, firstHalf, secondHalf, toldForm, toldBy, toldRequest, toldAnswer, refusedWith, namesOf, tableAfter, Reads}
 use Rattle.request.proofs.Order.{InsideForm, accepted-inside}
 use Rattle.promises.specs.Handed as hand
-use Rattle.promises.specs.Handed.{Shown, bytesAt, namesFrom, handedOut}
+use Rattle.promises.specs.Handed.{Shown, bytesAt, handedOut}
+use Rattle.promises.proofs.Calls.{Face}
 
 -- what is in hand, from the bodies alone
 abbrev pub inHand : Form (List ℕ) → Shown
@@ -36,17 +38,10 @@ inHand (support u p a k) = hand.support u p a k
 -- ---- the parts
 
 module _ (m : List ℕ) (x : Sighting) (h : x .start + x .len ≤ length m) where
-  body-length : length (bodyIn m x) ≡ x .len
-  body-length = length-take-le (x .len) (drop (x .start) m) (omega (arith, length-drop (x .start) m))
-
-  part-body : bytesAt m (partOf x) ≡ bodyIn m x
-  unfolding partAt
-  part-body = rw (le-leb (x .start + x .len) (length m) h)
-
   first-body : bytesAt m (firstHalf x) ≡ take (length (bodyIn m x) / 2) (bodyIn m x)
   unfolding partAt
   first-body =
-      rw (body-length, le-leb (x .start + x .len / 2) (length m) (omega arith), take-take (x .len / 2) (x .len) (drop (x .start) m) (omega arith))
+      rw (body-length m x h, le-leb (x .start + x .len / 2) (length m) (omega arith), take-take (x .len / 2) (x .len) (drop (x .start) m) (omega arith))
 
   second-body : bytesAt m (secondHalf x) ≡ take (length (bodyIn m x) / 2) (drop (length (bodyIn m x) / 2) (bodyIn m x))
   unfolding partAt
@@ -57,39 +52,19 @@ module _ (m : List ℕ) (x : Sighting) (h : x .start + x .len ≤ length m) wher
       let split : take (x .len) s ≡ take k s ++ take (x .len - k) (drop k s) = ap (λ (n : ℕ). take n s) both ∙ take-add k (x .len - k) s in
       let front : length (take k s) ≡ k = length-take-le k s (omega (arith, length-drop (x .start) m)) in
       let rest : drop k (take (x .len) s) ≡ take (x .len - k) (drop k s) = ap (drop k) split ∙ drop-at (take k s) (take (x .len - k) (drop k s)) k front in
-      rw (body-length, le-leb (x .start + k + k) (length m) (omega arith), rest, take-take k (x .len - k) (drop k s) (omega arith), drop-drop k (x .start) m)
-
--- ---- the names in the table
-
-module _ (m rest : List ℕ) where
-  names-back : (front : List ℕ) (i : ℕ) (d : List Sighting) → length front ≡ 2 * i → Inside (length m) d
-      → namesFrom m (front ++ (cells d ++ rest)) i (length d) ≡ map (bodyIn m) d
-  unfolding nameIn
-  names-back front i [] l h = refl
-  names-back front i (x ∷ d) l h =
-      let two = x .start ∷ x .len ∷ [] in
-      let more = cells d ++ rest in
-      let moved : front ++ (x .start ∷ x .len ∷ more) ≡ (front ++ two) ++ more = sym (append-assoc front two more) in
-      let start : getD (front ++ (x .start ∷ x .len ∷ more)) (2 * i) 0 ≡ x .start = getD-at front (x .start) (x .len ∷ more) 0 (2 * i) l in
-      let len : getD (front ++ (x .start ∷ x .len ∷ more)) (2 * i + 1) 0 ≡ x .len =
-      ap (λ (n : ℕ). getD (front ++ (x .start ∷ x .len ∷ more)) (n + 1) 0) (sym l) ∙ getD-append-add front (x .start ∷ x .len ∷ more) 1 0 in
-      let name : partAt m (getD (front ++ (x .start ∷ x .len ∷ more)) (2 * i) 0) (getD (front ++ (x .start ∷ x .len ∷ more)) (2 * i + 1) 0) ≡ bodyIn m x =
-      rw (start, len) (part-body m x (h .0)) in
-      let others : namesFrom m (front ++ (x .start ∷ x .len ∷ more)) (i + 1) (length d) ≡ map (bodyIn m) d =
-      rw moved (names-back (front ++ two) (i + 1) d (omega (arith, length-append front two)) (h .1)) in
-      cc
+      rw (body-length m x h, le-leb (x .start + k + k) (length m) (omega arith), rest, take-take k (x .len - k) (drop k s) (omega arith), drop-drop k (x .start) m)
 
 -- ---- what the call answered
 
 module _ (m : List ℕ) where
   shown : (table table′ : List ℕ) (x : Request) (q : Form Sighting) → InsideForm (length m) q → toldRequest x ≡ toldForm m q
       → table′ ≡ tableAfter (accepted q) table → handedOut m table′ x ≡ inHand (mapForm (bodyIn m) q)
-  unfolding tableAfter over
+  unfolding tableAfter
   shown table table′ (KeyExchange p a n) (keyExchange p₁ a₁ d) i e l =
       let ep : p ≡ partOf p₁ = cc in
       let ea : a ≡ partOf a₁ = cc in
       let en : n ≡ length d = cc in
-      let names = names-back m (drop (length (cells d)) table) [] 0 d refl (i .1 .1) in
+      let names = entries-back m table d (i .1 .1) in
       rw (ep, ea, en, l, part-body m p₁ (i .0), part-body m a₁ (i .1 .0), names, length-map)
   shown table table′ (KeyExchange p a n) (fixedKey u₁ x₁ a₁ p₁ k₁) i e l = let z : _≡_ {A = ℕ} 0 1 = cc in absurd (omega arith)
   shown table table′ (KeyExchange p a n) (support u₁ p₁ a₁ k₁) i e l = let z : _≡_ {A = ℕ} 0 1 = cc in absurd (omega arith)
@@ -124,30 +99,30 @@ form-not m (support u p a k) y h = cc
 -- a call on m under the limit n with a table, as its contract tells it
 module _ (m : List ℕ) (n : ℕ) (table : List ℕ) (r : Answer) (table′ : List ℕ) (c : Reads m n table r table′) where
   -- it answered a request: then the definition accepts ..
-  pub answered : (x : Request) → r ≡ Accepted x → (q : Form Sighting) × (request m n (length table / 2) ≡ accepted q)
-  answered x e = go (request m n (length table / 2)) refl (ap toldAnswer (sym e) ∙ c .says)
+  pub answered : (x : Request) → r ≡ Accepted x → (q : Form Sighting) × (request m n (roomOf table) ≡ accepted q)
+  answered x e = go (request m n (roomOf table)) refl (ap toldAnswer (sym e) ∙ c .says)
     where
-      go : (o : judge.Answer Form) → request m n (length table / 2) ≡ o → toldRequest x ≡ toldBy m o
-          → (q : Form Sighting) × (request m n (length table / 2) ≡ accepted q)
+      go : (o : judge.Answer Form) → request m n (roomOf table) ≡ o → toldRequest x ≡ toldBy m o
+          → (q : Form Sighting) × (request m n (roomOf table) ≡ accepted q)
       go (refused y) w h = let z : _≡_ {A = ℕ} 0 1 = told-not x y h in absurd (omega arith)
       go (accepted q) w h = (q, w)
 
   -- .. and where the definition accepts, it answered a request
-  pub answers : (q : Form Sighting) → request m n (length table / 2) ≡ accepted q → (x : Request) × (r ≡ Accepted x)
+  pub answers : (q : Form Sighting) → request m n (roomOf table) ≡ accepted q → (x : Request) × (r ≡ Accepted x)
   answers q w = go r refl (c .says ∙ ap (toldBy m) w)
     where
       go : (o : Answer) → r ≡ o → toldAnswer o ≡ toldForm m q → (x : Request) × (r ≡ Accepted x)
       go (Accepted x) e h = (x, e)
       go (answer.Refused y) e h = let z : _≡_ {A = ℕ} 0 1 = form-not m q (toldRefusal y) (sym h) in absurd (omega arith)
 
-  pub in-hand : (x : Request) (q : Form Sighting) → r ≡ Accepted x → request m n (length table / 2) ≡ accepted q
+  pub in-hand : (x : Request) (q : Form Sighting) → r ≡ Accepted x → request m n (roomOf table) ≡ accepted q
       → handedOut m table′ x ≡ inHand (mapForm (bodyIn m) q)
   in-hand x q e w =
-      shown m table table′ x q (accepted-inside m n (length table / 2) q w) (ap toldAnswer (sym e) ∙ c .says ∙ ap (toldBy m) w)
+      shown m table table′ x q (accepted-inside m n (roomOf table) q w) (ap toldAnswer (sym e) ∙ c .says ∙ ap (toldBy m) w)
       (c .left ∙ ap (λ (o : judge.Answer Form). tableAfter o table) w)
 
   -- where the definition refuses, so does the call, and no cell of the table changes
-  pub refuses : (y : Refused) → request m n (length table / 2) ≡ refused y
+  pub refuses : (y : Refused) → request m n (roomOf table) ≡ refused y
       → (x : Refusal) × (r ≡ answer.Refused x) × (toldRefusal x ≡ y) × (table′ ≡ table)
   unfolding tableAfter
   refuses y w = go r refl (c .says ∙ ap (toldBy m) w)
@@ -158,3 +133,18 @@ module _ (m : List ℕ) (n : ℕ) (table : List ℕ) (r : Answer) (table′ : Li
       go : (o : Answer) → r ≡ o → toldAnswer o ≡ refusedWith y → (x : Refusal) × (r ≡ answer.Refused x) × (toldRefusal x ≡ y) × (table′ ≡ table)
       go (Accepted x) e h = let z : _≡_ {A = ℕ} 0 1 = told-not x y h in absurd (omega arith)
       go (answer.Refused x) e h = (x, e, cc, same)
+
+abbrev pub request-face : Face Form Request Answer Shown
+request-face = record {
+  reading = request;
+  shows = λ m q. mapForm (bodyIn m) q;
+  Reads = Reads;
+  accept = Accepted;
+  refuse = answer.Refused;
+  hand = handedOut;
+  inHand = inHand;
+  answered = answered;
+  answers = answers;
+  in-hand = in-hand;
+  refuses = refuses;
+}

@@ -1,3 +1,4 @@
+pub mod Calls
 pub mod Handing
 pub mod Demand2
 pub mod Demand3

@@ -1,12 +1,12 @@
 -- What a caller gets in hand of an accepted request: demand 3, "the answer's kind, numbers, names, keys and cookies".
-use Prim.Native.Nat.{ℕ, zero, suc, _+_}
-use mathlib.Core.List.{List, [], _∷_}
+use Prim.Native.Nat.{ℕ}
+use mathlib.Core.List.{List}
 use mathlib.Core.Bool.{Bool}
 use Rattle.wire.specs.Bytes.{partAt}
 use Rattle.record.specs.declared.Part.{Part}
 use Rattle.request.specs.declared.Request.{Request}
 use Rattle.request.specs.declared.Request.the-variants.{KeyExchange, FixedKey, Support}
-use Rattle.request.specs.Request.{nameIn}
+use Rattle.places.specs.Places.{entriesFrom}
 
 -- bytes and numbers, and no place; the case is the request's kind
 pub data Shown : Type 0 where
@@ -21,13 +21,8 @@ pub data Shown : Type 0 where
 abbrev pub bytesAt : List ℕ → Part → List ℕ
 bytesAt m p = partAt m (p .start) (p .len)
 
--- so many names from an index of the table on, as request::denied_name gives them
-abbrev pub namesFrom : List ℕ → List ℕ → ℕ → ℕ → List (List ℕ)
-namesFrom m table i zero = []
-namesFrom m table i (suc n) = nameIn m table i ∷ namesFrom m table (i + 1) n
-
--- of a message, the table after the call, and the request that the call answered
+-- of a message, the table after the call, and the request that the call answered; the names as places::entry gives them
 abbrev pub handedOut : List ℕ → List ℕ → Request → Shown
-handedOut m table (KeyExchange p a d) = keyExchange (bytesAt m p) (bytesAt m a) d (namesFrom m table 0 d)
+handedOut m table (KeyExchange p a d) = keyExchange (bytesAt m p) (bytesAt m a) d (entriesFrom m table 0 d)
 handedOut m table (FixedKey u c s a p k) = fixedKey (bytesAt m u) (bytesAt m c) (bytesAt m s) (a .0) (p .0) k
 handedOut m table (Support u p a k) = support (bytesAt m u) p a k

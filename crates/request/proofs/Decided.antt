@@ -15,9 +15,10 @@ use Rattle.wire.proofs.Bytes.{number-drop, number-take}
 use Rattle.nts.specs.Refusal.{nothing, code}
 use Rattle.nts.specs.Algorithm.{Described, known, unknown, describe}
 use Rattle.walk.specs.Walk.{Sighting}
-use Rattle.walk.specs.Judge.{no, yes, ofKind, bodyIn, placed}
-use Rattle.request.specs.Request.{Form, keyExchange, fixedKey, support, some, withFirst, keyed, fixedBy, decide, Told, keyExchangeIs, fixedKeyIs, supportIs, partOf, firstHalf, secondHalf, toldBy}
-use Rattle.request.specs.State.{slotOf, keySlotOf, tally, refusedAt, supportIn, keyedIn, isOne, keysIn, fixedIn, exchangeIn, decidedIn}
+use Rattle.walk.specs.Judge.{no, yes, some, withFirst, ofKind, bodyIn, partOf, placed}
+use Rattle.request.specs.Request.{Form, keyExchange, fixedKey, support, keyed, fixedBy, decide, Told, keyExchangeIs, fixedKeyIs, supportIs, firstHalf, secondHalf, toldBy}
+use Rattle.request.specs.State.{keySlotOf, tally, refusedAt, supportIn, keyedIn, isOne, keysIn, fixedIn, exchangeIn, decidedIn}
+use Rattle.places.specs.Slots.{slotOf}
 use Rattle.walk.proofs.Noted.{Inside, kind-inside}
 
 module _ (m : List ℕ) (at : ℕ) where

@@ -1,7 +1,7 @@
 -- The request reader keeps the two laws that demand 3 asks of a reader, and ends no message by itself: kind 0 does.
 -- Assumes nothing.
 use mathlib.Core.Path.{_≡_, refl}
-use mathlib.Core.List.{List, [], _∷_, map}
+use mathlib.Core.List.{List, map}
 use mathlib.Core.Bool.{Bool, true, false, cond, _&&_, _||_}
 use Prim.Native.Nat.{ℕ, _/_}
 use native.Mathlib.Omega.{arith}
@@ -11,9 +11,10 @@ use Rattle.wire.specs.Bytes.{numberAt}
 use Rattle.nts.specs.Refusal.{nothing}
 use Rattle.nts.specs.Algorithm.{Described, known, unknown, describe}
 use Rattle.walk.specs.Walk.{ends, passes, notes, refuses}
-use Rattle.walk.specs.Judge.{Verdict, no, yes}
+use Rattle.walk.specs.Judge.{Verdict, no, yes, some}
 use Rattle.walk.proofs.Laws.{mapVerdict, Lawful}
-use Rattle.request.specs.Request.{act, once, reader, Form, fixedKey, mapForm, some, withFirst, keyed, fixedBy, decide, judgeBy}
+use Rattle.walk.proofs.Verdicts.{some-length, some-map, if-map, first-map}
+use Rattle.request.specs.Request.{act, once, reader, Form, fixedKey, mapForm, keyed, fixedBy, decide, judgeBy}
 
 -- ---- kind 0 alone ends a message
 
@@ -26,43 +27,21 @@ request-goes k b h = go (eqb k 2 || eqb k 3 || eqb k 5) (eqb k 6 || eqb k 7) h
     go false true e = let z : _≡_ {A = ℕ} 0 1 = cc in omega arith
     go false false e = let z : _≡_ {A = ℕ} 0 1 = cc in omega arith
 
--- ---- whether a record of a kind is there
-
-some-length : {A : Type 0} (l l′ : List A) → length l ≡ length l′ → some l ≡ some l′
-some-length [] [] h = refl
-some-length [] (x ∷ l′) h = absurd (omega arith)
-some-length (x ∷ l) [] h = absurd (omega arith)
-some-length (x ∷ l) (y ∷ l′) h = refl
-
-some-map : {A : Type 0} (f : A → List ℕ) (l : List A) → some (map f l) ≡ some l
-some-map f [] = refl
-some-map f (x ∷ l) = refl
-
 -- ---- a verdict over bodies, and the same over what stands for them
 
 module _ (room : ℕ) {A : Type 0} (f : A → List ℕ) where
   abbrev over-bytes : Verdict Form A → Verdict Form (List ℕ)
   over-bytes v = mapVerdict (judgeBy room) f v
 
-  if-map : (t : Bool) (v w : Verdict Form A) (v′ w′ : Verdict Form (List ℕ)) → over-bytes v ≡ v′ → over-bytes w ≡ w′
-      → over-bytes (cond t v w) ≡ cond t v′ w′
-  if-map true v w v′ w′ p q = p
-  if-map false v w v′ w′ p q = q
-
-  first-map : (l : List A) (z : Verdict Form A) (g : A → Verdict Form A) (z′ : Verdict Form (List ℕ)) (g′ : List ℕ → Verdict Form (List ℕ))
-      → over-bytes z ≡ z′ → ((x : A) → over-bytes (g x) ≡ g′ (f x)) → over-bytes (withFirst l z g) ≡ withFirst (map f l) z′ g′
-  first-map [] z g z′ g′ e h = e
-  first-map (x ∷ l) z g z′ g′ e h = h x
-
   keyed-map : (d : Described) (n half : ℕ) (q : Form A) → over-bytes (keyed d n half q) ≡ keyed d n half (mapForm f q)
   unfolding keyed
   keyed-map unknown n half q = refl
-  keyed-map (known m size) n half q = if-map (eqb half size) (yes q) (no 6 nothing) _ _ refl refl
+  keyed-map (known m size) n half q = if-map (judgeBy room) f (eqb half size) (yes q) (no 6 nothing) _ _ refl refl
 
   fixed-map : (u x a p : A) (k : Bool) → over-bytes (fixedBy f u x a p k) ≡ fixedBy (λ (b : List ℕ). b) (f u) (f x) (f a) (f p) k
   unfolding fixedBy
   fixed-map u x a p k =
-      if-map (eqb (length (f p)) 2 && eqb (length (f a)) 2) _ _ _ _
+      if-map (judgeBy room) f (eqb (length (f p)) 2 && eqb (length (f a)) 2) _ _ _ _
       (keyed-map (describe (numberAt (f a) 0)) (numberAt (f a) 0) (length (f x) / 2) (fixedKey u x a p k))
       refl
 
@@ -70,13 +49,13 @@ module _ (room : ℕ) {A : Type 0} (f : A → List ℕ) where
   unfolding decide
   decide-map l =
       simp (some-map f, length-map)
-      (if-map (some (l 9) || some (l 10)) _ _ _ _
-      (first-map (l 14) _ _ _ _ refl (λ u. if-map (some (l 12) || some (l 1) || some (l 4)) _ _ _ _ refl refl))
-      (first-map (l 12) _ _ _ _
-      (first-map (l 1) _ _ _ _ refl (λ p. first-map (l 4) _ _ _ _ refl (λ a. if-map (ltb room (length (l 13))) _ _ _ _ refl refl)))
-      (λ x. first-map (l 14) _ _ _ _ refl
-      (λ u. first-map (l 1) _ _ _ _ refl
-      (λ p. first-map (l 4) _ _ _ _ refl
+      (if-map (judgeBy room) f (some (l 9) || some (l 10)) _ _ _ _
+      (first-map (judgeBy room) f (l 14) _ _ _ _ refl (λ u. if-map (judgeBy room) f (some (l 12) || some (l 1) || some (l 4)) _ _ _ _ refl refl))
+      (first-map (judgeBy room) f (l 12) _ _ _ _
+      (first-map (judgeBy room) f (l 1) _ _ _ _ refl (λ p. first-map (judgeBy room) f (l 4) _ _ _ _ refl (λ a. if-map (judgeBy room) f (ltb room (length (l 13))) _ _ _ _ refl refl)))
+      (λ x. first-map (judgeBy room) f (l 14) _ _ _ _ refl
+      (λ u. first-map (judgeBy room) f (l 1) _ _ _ _ refl
+      (λ p. first-map (judgeBy room) f (l 4) _ _ _ _ refl
       (λ a. fixed-map u x a p (some (l 8))))))))
 
 -- ---- the laws

@@ -2,24 +2,25 @@
 -- unknown kind and its bit clear, show the same bodies; with the bit set it is refusal 3 at that record. And each part of an accepted request
 -- lies inside the message.
 -- Assumes nothing.
-use mathlib.Core.Path.{_≡_, refl, subst}
+use mathlib.Core.Path.{_≡_, refl}
 use mathlib.Core.List.{List, [], _∷_, _++_, List·Permᴰ}
 use mathlib.Core.Bool.{Bool, true, false, cond, _&&_, _||_}
 use Prim.Native.Nat.{ℕ, _+_, _≤_}
-use native.Mathlib.Omega.{arith}
-use lib.ListN.{length, take, length-take}
+use lib.ListN.{length}
 use lib.Dec.{ltb, eqb}
 use Rattle.nts.specs.Refusal.{nothing}
 use Rattle.nts.specs.Algorithm.{Described, unknown}
 use Rattle.nts.specs.Algorithm as algorithm
 use Rattle.record.specs.Record.{kind, critical}
-use Rattle.walk.specs.Walk.{Sighting, Outcome, stopped, ended, walk}
-use Rattle.walk.specs.Judge.{Verdict, no, yes, ofKind, bodyIn, refused, accepted, placed, finish, readBy}
+use Rattle.walk.specs.Walk.{Sighting}
+use Rattle.walk.specs.Judge.{Verdict, no, yes, some, withFirst, ofKind, bodyIn, refused, accepted}
 use Rattle.walk.specs.Message.{Whole, Record, End, Each, recordsOf, flat, message, Parts}
 use Rattle.walk.specs.Table.{known}
 use Rattle.walk.proofs.Demand3 as every
-use Rattle.walk.proofs.Noted.{Inside, walk-inside, kind-inside}
-use Rattle.request.specs.Request.{act, once, reader, Form, keyExchange, fixedKey, support, mapForm, some, withFirst, keyed, fixedBy, decide, judgeBy, request}
+use Rattle.walk.proofs.Noted.{Inside, kind-inside}
+use Rattle.walk.proofs.Verdicts as verdicts
+use Rattle.walk.proofs.Verdicts.{accepted-held}
+use Rattle.request.specs.Request.{act, once, reader, Form, keyExchange, fixedKey, support, mapForm, keyed, fixedBy, decide, judgeBy, request}
 use Rattle.request.proofs.Lawful.{request-goes, request-lawful}
 
 -- m is accepted under the limit n and a table room, and its answer shows x
@@ -62,19 +63,16 @@ InsideForm N (keyExchange p a d) = Inside N (p ∷ a ∷ d)
 InsideForm N (fixedKey u x a p k) = Inside N (u ∷ x ∷ a ∷ p ∷ [])
 InsideForm N (support u p a k) = Inside N (u ∷ [])
 
-module _ (N : ℕ) where
+module _ (N room : ℕ) where
   abbrev Held : Verdict Form Sighting → Type 0
-  Held (no n b) = Unit {0}
-  Held (yes q) = InsideForm N q
+  Held v = verdicts.Held (judgeBy room) (InsideForm N) v
 
   held-if : (t : Bool) (v w : Verdict Form Sighting) → Held v → Held w → Held (cond t v w)
-  held-if true v w p q = p
-  held-if false v w p q = q
+  held-if t v w p q = verdicts.held-if (judgeBy room) (InsideForm N) t v w (λ e. p) (λ e. q)
 
   held-first : (l : List Sighting) (v : Verdict Form Sighting) (f : Sighting → Verdict Form Sighting) → Inside N l → Held v
       → ((x : Sighting) → x .start + x .len ≤ N → Held (f x)) → Held (withFirst l v f)
-  held-first [] v f i p q = p
-  held-first (x ∷ l) v f i p q = q x (i .0)
+  held-first = verdicts.held-first (judgeBy room) (InsideForm N) N
 
   held-keyed : (d : Described) (n half : ℕ) (q : Form Sighting) → InsideForm N q → Held (keyed d n half q)
   unfolding keyed
@@ -85,9 +83,9 @@ module _ (N : ℕ) where
   unfolding fixedBy
   held-fixed val u x a p k i = held-if (eqb (length (val p)) 2 && eqb (length (val a)) 2) _ _ (held-keyed _ _ _ (fixedKey u x a p k) i) tt
 
-  held-decide : (room : ℕ) (val : Sighting → List ℕ) (l : ℕ → List Sighting) → ((k : ℕ) → Inside N (l k)) → Held (decide room val l)
+  held-decide : (val : Sighting → List ℕ) (l : ℕ → List Sighting) → ((k : ℕ) → Inside N (l k)) → Held (decide room val l)
   unfolding decide
-  held-decide room val l i =
+  held-decide val l i =
       held-if (some (l 9) || some (l 10)) _ _
       (held-first (l 14) _ _ (i 14) tt (λ u hu. held-if (some (l 12) || some (l 1) || some (l 4)) _ _ tt (hu, tt)))
       (held-first (l 12) _ _ (i 12)
@@ -97,17 +95,8 @@ module _ (N : ℕ) where
       (λ p hp. held-first (l 4) _ _ (i 4) tt
       (λ a ha. held-fixed val u x a p (some (l 8)) (hu, (hx, (ha, (hp, tt)))))))))
 
-  held-placed : (at : ℕ) (v : Verdict Form Sighting) (q : Form Sighting) → Held v → placed at v ≡ accepted q → InsideForm N q
-  held-placed at (no n b) q h e = let z : _≡_ {A = ℕ} 0 1 = cc in absurd (omega arith)
-  held-placed at (yes x) q h e = let same : x ≡ q = cc in subst (InsideForm N) same h
-
 pub accepted-inside : (m : List ℕ) (n room : ℕ) (q : Form Sighting) → request m n room ≡ accepted q → InsideForm (length m) q
-unfolding request readBy finish
-accepted-inside m n room q h = go (walk reader [] 0 0 (take n m)) refl h
-  where
-    go : (o : Outcome) → walk reader [] 0 0 (take n m) ≡ o → finish (judgeBy room) m o ≡ accepted q → InsideForm (length m) q
-    go (stopped r) w e = let z : _≡_ {A = ℕ} 0 1 = cc in absurd (omega arith)
-    go (ended at next st) w e =
-        let i = walk-inside reader [] 0 0 (take n m) (length m) at next st (simp length-take (omega arith)) tt w in
-        held-placed (length m) at (decide room (bodyIn m) (λ k. ofKind k st)) q
-        (held-decide (length m) room (bodyIn m) (λ k. ofKind k st) (λ k. kind-inside (length m) k st i)) e
+unfolding request
+accepted-inside m n room q =
+    accepted-held (judgeBy room) (InsideForm (length m)) reader m n q
+    (λ st i. held-decide (length m) room (bodyIn m) (λ k. ofKind k st) (λ k. kind-inside (length m) k st i))

@@ -5,10 +5,6 @@ use mathlib.Core.Path.{_≡_, sym, _∙_}
 use denote.Ref.{now}
 use Rattle.request.proofs.Apart.{answer-apart}
 use Rattle.request.proofs.Request.parse.Reads as parse
-use Rattle.request.proofs.denied_name.Reads as denied-name
 
 pub Request-parse-same : (κs : _) (a : _) (r r′ : _) (e e′ : _) → parse.Learnt κs a r e → parse.Learnt κs a r′ e′ → (r ≡ r′) × (now (e .1 .1 .0) ≡ now (e′ .1 .1 .0))
 Request-parse-same κs a r r′ e e′ p q = (answer-apart r r′ (p .says ∙ sym (q .says)), p .left ∙ sym (q .left))
-
-pub denied-name-same : (κs : _) (a : _) (r r′ : _) (e e′ : _) → denied-name.Learnt κs a r e → denied-name.Learnt κs a r′ e′ → now r ≡ now r′
-denied-name-same κs a r r′ e e′ p q = p ∙ sym q

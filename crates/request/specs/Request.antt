@@ -1,19 +1,20 @@
 -- A request: 01, "From records to a request".
-use Prim.Native.Nat.{ℕ, _+_, _*_, _/_}
+use Prim.Native.Nat.{ℕ, _+_, _/_}
 use mathlib.Core.Path.{_≡_}
 use mathlib.Core.List.{List, [], _∷_, map}
 use mathlib.Core.Bool.{Bool, true, false, cond, not, _&&_, _||_}
-use lib.ListN.{length, getD}
+use lib.ListN.{length}
 use lib.Dec.{ltb, eqb}
-use Rattle.wire.specs.Bytes.{numberAt, partAt}
+use Rattle.wire.specs.Bytes.{numberAt}
 use Rattle.wire.specs.Over.{over}
 use Rattle.nts.specs.Refusal.{nothing, code, Refused, toldRefusal}
 use Rattle.nts.specs.Algorithm.{Described, known, unknown, describe}
 use Rattle.record.specs.declared.Part.{Part}
 use Rattle.walk.specs.Walk.{Act, passes, notes, refuses, Reader, Sighting}
 use Rattle.walk.specs.Judge as judge
-use Rattle.walk.specs.Judge.{Verdict, no, yes, Judge, bodyIn, readBy}
+use Rattle.walk.specs.Judge.{Verdict, no, yes, Judge, some, withFirst, bodyIn, partOf, readBy}
 use Rattle.walk.specs.Table.{tableReader}
+use Rattle.places.specs.Places.{cells, roomOf}
 use Rattle.request.specs.declared.Request.{Request}
 use Rattle.request.specs.declared.Request.the-variants.{KeyExchange, FixedKey, Support}
 use Rattle.request.specs.declared.Answer.{Answer}
@@ -48,16 +49,6 @@ abbrev pub mapForm : {A B : Type 0} → (A → B) → Form A → Form B
 mapForm f (keyExchange p a d) = keyExchange (f p) (f a) (map f d)
 mapForm f (fixedKey u x a p k) = fixedKey (f u) (f x) (f a) (f p) k
 mapForm f (support u p a k) = support (f u) p a k
-
--- a record of a kind is there
-abbrev pub some : {A : Type 0} → List A → Bool
-some [] = false
-some (x ∷ l) = true
-
--- it is missing: z; otherwise by the first
-abbrev pub withFirst : {A B : Type 0} → List A → B → (A → B) → B
-withFirst [] z f = z
-withFirst (x ∷ l) z f = f x
 
 -- algorithm 15 needs halves of 32 bytes and 17 halves of 64, otherwise 6; another algorithm is 5, with its number
 unfoldable pub keyed : {A : Type 0} → Described → ℕ → ℕ → Form A → Verdict Form A
@@ -103,10 +94,6 @@ pub data Told : Type 0 where
   supportIs : Part → Bool → Bool → Bool → Told
   refusedWith : Refused → Told
 
--- bodies, names and keys are parts of the message
-abbrev pub partOf : Sighting → Part
-partOf x = record { start = x .start; len = x .len }
-
 -- a key record's halves, client to server first
 abbrev pub firstHalf : Sighting → Part
 firstHalf x = record { start = x .start; len = x .len / 2 }
@@ -123,7 +110,7 @@ abbrev pub toldBy : List ℕ → judge.Answer Form → Told
 toldBy m (judge.refused r) = refusedWith r
 toldBy m (judge.accepted q) = toldForm m q
 
--- what each case of the answer says
+-- what each case of the answer says; bodies, names and keys are parts of the message
 abbrev pub toldRequest : Request → Told
 toldRequest (KeyExchange p a d) = keyExchangeIs p a d
 toldRequest (FixedKey u c s a p k) = fixedKeyIs u c s (a .0) (p .0) k
@@ -133,11 +120,7 @@ abbrev pub toldAnswer : Answer → Told
 toldAnswer (Accepted q) = toldRequest q
 toldAnswer (answer.Refused r) = refusedWith (toldRefusal r)
 
--- ---- the table of names: two cells a name, start and length, in message order
-
-abbrev pub cells : List Sighting → List ℕ
-cells [] = []
-cells (x ∷ d) = x .start ∷ x .len ∷ cells d
+-- ---- the table of names
 
 -- only an accepted key-exchange request writes any
 abbrev pub namesOf : judge.Answer Form → List Sighting
@@ -149,11 +132,7 @@ namesOf (judge.accepted (support u p a k)) = []
 unfoldable pub tableAfter : judge.Answer Form → List ℕ → List ℕ
 tableAfter x table = over (cells (namesOf x)) table
 
--- the name at an index of a table, as part of the message; a cell that is not there counts as 0
-unfoldable pub nameIn : List ℕ → List ℕ → ℕ → List ℕ
-nameIn m table i = partAt m (getD table (2 * i) 0) (getD table (2 * i + 1) 0)
-
 -- the reader's contract: what it answers, and the table afterwards
 pub record Reads (m : List ℕ) (n : ℕ) (table : List ℕ) (r : Answer) (table′ : List ℕ) : Type 0 where
-  pub says : toldAnswer r ≡ toldBy m (request m n (length table / 2))
-  pub left : table′ ≡ tableAfter (request m n (length table / 2)) table
+  pub says : toldAnswer r ≡ toldBy m (request m n (roomOf table))
+  pub left : table′ ≡ tableAfter (request m n (roomOf table)) table

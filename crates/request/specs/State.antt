@@ -1,10 +1,10 @@
 -- What the code holds of a walk, and what it does with it: the struct that stands for the list of records noted (`tally`), one record met by
 -- its case, and the decision over the struct. proofs/ shows that these follow the definitions of walk and of Request.antt.
-use Prim.Native.Nat.{ℕ, _+_, _/_, _-_, _≤_, _<_}
+use Prim.Native.Nat.{ℕ, _+_, _/_}
 use mathlib.Core.Path.{_≡_}
 use mathlib.Core.List.{List, [], _∷_}
 use mathlib.Core.Bool.{Bool, true, false, cond, _&&_}
-use lib.ListN.{length, set}
+use lib.ListN.{length}
 use lib.Dec.{ltb, eqb}
 use Rattle.wire.specs.Bytes.{numberAt}
 use Rattle.nts.specs.Refusal.{Beside, nothing, code, Refused, numberOf, besideOf, toldRefusal}
@@ -15,10 +15,12 @@ use Rattle.record.specs.declared.NtsRecord.{NtsRecord}
 use Rattle.record.specs.declared.NtsRecord.the-variants.{EndOfMessage, NextProtocol, Error, Warning, AeadAlgorithm, NewCookie, Server, Port, KeepAlive, SupportedNextProtocolList, SupportedAlgorithmList, FixedKeyRequest, NtpServerDeny, Authentication, Unknown}
 use Rattle.record.specs.declared.Parsed.{Parsed}
 use Rattle.record.specs.declared.Parsed.the-variants as parsed
-use Rattle.walk.specs.Walk.{Sighting, Outcome, stopped, ended}
-use Rattle.walk.specs.Judge.{ofKind}
-use Rattle.request.specs.Request.{some, partOf, firstHalf, secondHalf, Told, keyExchangeIs, fixedKeyIs, supportIs, refusedWith}
-use Rattle.request.specs.declared.Slot.{Slot}
+use Rattle.walk.specs.Walk.{Sighting}
+use Rattle.walk.specs.Judge.{ofKind, some}
+use Rattle.walk.specs.Held.{Way, wayRefused, wayEnded}
+use Rattle.places.specs.Slots.{empty, here, slotOf}
+use Rattle.places.specs.declared.Slot.{Slot}
+use Rattle.request.specs.Request.{firstHalf, secondHalf, Told, keyExchangeIs, fixedKeyIs, supportIs, refusedWith}
 use Rattle.request.specs.declared.KeySlot.{KeySlot}
 use Rattle.request.specs.declared.Found.{Found}
 use Rattle.request.specs.declared.Step.{Step}
@@ -27,18 +29,8 @@ use Rattle.request.specs.declared.Walked.{Walked}
 use Rattle.request.specs.declared.Walked.the-variants as walked
 use Rattle.request.specs.declared.Answer.{Answer}
 use Rattle.request.specs.declared.Answer.the-variants as answer
-use Rattle.request.specs.declared.Sight.{Sight}
-use Rattle.request.specs.declared.Sight.the-variants as sight
 
 -- ---- the struct
-
-abbrev pub empty : Part
-empty = record { start = 0; len = 0 }
-
--- the first record of a kind, if any
-abbrev pub slotOf : List Sighting → Slot
-slotOf [] = record { there = false; body = empty }
-slotOf (x ∷ l) = record { there = true; body = partOf x }
 
 abbrev pub keySlotOf : List Sighting → KeySlot
 keySlotOf [] = record { there = false; c2s = empty; s2c = empty }
@@ -79,9 +71,6 @@ abbrev pub unless : Bool → Found → Step
 unless true f = Stop NtsError.Invalid
 unless false f = On f
 
-abbrev pub here : Part → Slot
-here p = record { there = true; body = p }
-
 abbrev pub unknownMet : Bool → Found → Step
 unknownMet true f = Stop NtsError.UnrecognizedCriticalRecord
 unknownMet false f = On f
@@ -105,16 +94,7 @@ meetItem f (Unknown k bit p) = unknownMet bit f
 
 -- ---- the whole walk
 
--- how it stopped: with a refusal, or at the end record's place with the struct
-pub data Way : Type 0 where
-  wayRefused : Refused → Way
-  wayEnded : ℕ → Found → Way
-
-abbrev pub wayOf : Outcome → Way
-wayOf (stopped r) = wayRefused r
-wayOf (ended at next st) = wayEnded at (tally st)
-
-abbrev pub toldWalked : Walked → Way
+abbrev pub toldWalked : Walked → Way Found
 toldWalked (walked.Refused r) = wayRefused (toldRefusal r)
 toldWalked (walked.Ended at f) = wayEnded at f
 
@@ -182,32 +162,10 @@ decidedIn m f at room =
     (supportIn f at)
     (cond (f .keys .there) (fixedIn m f at) (exchangeIn f at room)))
 
--- ---- the second pass
+-- ---- whether names are put into the table
 
 abbrev pub isExchange : Told → Bool
 isExchange (keyExchangeIs p a d) = true
 isExchange (fixedKeyIs u c s a p k) = false
 isExchange (supportIs u p a k) = false
 isExchange (refusedWith r) = false
-
-abbrev pub sightOf : NtsRecord → Sight
-sightOf EndOfMessage = sight.End
-sightOf (NextProtocol p) = sight.Other
-sightOf (Error c) = sight.Other
-sightOf (Warning c) = sight.Other
-sightOf (AeadAlgorithm p) = sight.Other
-sightOf (NewCookie p) = sight.Other
-sightOf (Server p) = sight.Other
-sightOf (Port n) = sight.Other
-sightOf KeepAlive = sight.Other
-sightOf (SupportedNextProtocolList p) = sight.Other
-sightOf (SupportedAlgorithmList p) = sight.Other
-sightOf (FixedKeyRequest c s) = sight.Other
-sightOf (NtpServerDeny p) = sight.Name p
-sightOf (Authentication p) = sight.Other
-sightOf (Unknown k bit p) = sight.Other
-
--- two cells from a place on, where there is room for both
-pub record PutName (name : Part) (t : List ℕ) (to r : ℕ) (t′ : List ℕ) : Type 0 where
-  pub room : to + 2 ≤ length t → (r ≡ to + 2) × (t′ ≡ set (set t to (name .start)) (to + 1) (name .len))
-  pub none : length t < to + 2 → (r ≡ to) × (t′ ≡ t)

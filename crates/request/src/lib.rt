@@ -1,24 +1,23 @@
-// Reading a request (the crate's Request::parse), and the table of the names that it denies.
+// Reading a request (the crate's Request::parse).
 use nts::AeadAlgorithm;
 use nts::Description;
 use nts::NextProtocol;
 use nts::NtsError;
 use nts::Refusal;
+use places::Slot;
 use record::Cursor;
 use record::NtsRecord;
 use record::Parsed;
 use record::Part;
 ghost use mathlib.Core.Path.{_≡_};
-ghost use mathlib.Core.List.{List, []};
+ghost use mathlib.Core.List.{[]};
 ghost use mathlib.Core.Bool.{true};
-ghost use Prim.Native.Nat.{ℕ, _+_, _*_, _/_, _<_, _≤_, _^_};
-ghost use lib.ListN.{length, take};
-ghost use Rattle.wire.specs.Bytes.{partAt};
-ghost use Rattle.wire.specs.Over.{over};
-ghost use Rattle.walk.specs.Walk.{Sighting, ended, walk};
-ghost use Rattle.walk.specs.Judge.{ofKind};
-ghost use Rattle.request.specs.Request.{reader, toldAnswer, cells, nameIn, Reads};
-ghost use Rattle.request.specs.State.{tally, here, withProtocols, withAlgorithms, withKeys, withAuthentication, withCounts, unless, unknownMet, meetItem, unreadOf, handedUp, wayOf, toldWalked, supportIn, isOne, keysIn, fixedIn, exchangeIn, decidedIn, isExchange, sightOf, PutName};
+ghost use Prim.Native.Nat.{_+_, _<_, _^_};
+ghost use Rattle.walk.specs.Walk.{walk};
+ghost use Rattle.walk.specs.Held.{wayOf};
+ghost use Rattle.places.specs.Slots.{here};
+ghost use Rattle.request.specs.Request.{reader, toldAnswer, Reads};
+ghost use Rattle.request.specs.State.{tally, withProtocols, withAlgorithms, withKeys, withAuthentication, withCounts, unless, unknownMet, meetItem, unreadOf, handedUp, toldWalked, supportIn, isOne, keysIn, fixedIn, exchangeIn, decidedIn, isExchange};
 
 // A request that was accepted, with the crate's fields; bodies, names and keys are parts of the message.
 pub enum Request {
@@ -48,13 +47,7 @@ pub enum Answer {
     Refused(Refusal),
 }
 
-// Whether a record was there, and its body.
-pub struct Slot {
-    pub there: bool,
-    pub body: Part,
-}
-
-// The same for a key record, with its halves.
+// Whether a key record was there, and its halves.
 pub struct KeySlot {
     pub there: bool,
     pub c2s: Part,
@@ -92,39 +85,17 @@ impl Request {
     pub fn parse(message: &[u8], limit: u16, table: &mut [u16]) -> Answer
         ensures { λ r. ⌜ Reads (now (message .entry)) limit (now (table .entry)) r (now (table .exit)) ⌝ }
     {
-        let cut = cut_at(message, limit);
+        let cut = places::cut_at(message, limit);
         let walked = walk_all(cut);
         let Walked::Ended { place, found } = walked else {
             return handed_up(walked);
         };
         let answer = decide(message, found, place, table.len() / 2);
         if is_exchange(answer) {
-            fill(cut, table);
+            places::fill(message, limit, NtsRecord::NTP_SERVER_DENY, table);
         }
         answer
     }
-}
-
-// The name at an index of a table that was filled from the message; empty where the index or the cells point outside.
-pub fn denied_name<'a>(message: &'a [u8], table: &[u16], index: usize) -> &'a [u8]
-    ensures { λ r. ⌜ now r ≡ nameIn (now (message .entry)) (now (table .entry)) index ⌝ }
-{
-    if index < table.len() / 2 {
-        let at = 2 * index;
-        let next = at + 1;
-        return wire::part(message, table[at] as usize, table[next] as usize);
-    }
-    wire::part(message, 0, 0)
-}
-
-fn cut_at(message: &[u8], limit: u16) -> &[u8]
-    ensures { λ r. ⌜ now r ≡ take limit (now (message .entry)) ⌝ }
-{
-    let n = limit as usize;
-    if n < message.len() {
-        return &message[0..n];
-    }
-    &message[0..]
 }
 
 const EMPTY: Part = Part { start: 0, len: 0 };
@@ -155,7 +126,7 @@ fn nothing_found() -> Found
 
 // The walk: record after record, until one is refused or the first end record.
 fn walk_all(cut: &[u8]) -> Walked
-    ensures { λ r. ⌜ toldWalked r ≡ wayOf (walk reader [] 0 0 (now (cut .entry))) ⌝ }
+    ensures { λ r. ⌜ toldWalked r ≡ wayOf tally (walk reader [] 0 0 (now (cut .entry))) ⌝ }
 {
     let mut at: usize = 0;
     let mut found = nothing_found();
@@ -488,80 +459,5 @@ fn is_exchange(answer: Answer) -> bool
             } => false,
         },
         Answer::Refused(_) => false,
-    }
-}
-
-// A record as the second pass sees it.
-pub enum Sight {
-    Name(Part),
-    Other,
-    End,
-}
-
-fn sight_of(item: NtsRecord) -> Sight
-    ensures { λ r. ⌜ r ≡ sightOf item ⌝ }
-{
-    match item {
-        NtsRecord::EndOfMessage => Sight::End,
-        NtsRecord::NextProtocol(_) => Sight::Other,
-        NtsRecord::Error(_) => Sight::Other,
-        NtsRecord::Warning(_) => Sight::Other,
-        NtsRecord::AeadAlgorithm(_) => Sight::Other,
-        NtsRecord::NewCookie(_) => Sight::Other,
-        NtsRecord::Server(_) => Sight::Other,
-        NtsRecord::Port(_) => Sight::Other,
-        NtsRecord::KeepAlive => Sight::Other,
-        NtsRecord::SupportedNextProtocolList(_) => Sight::Other,
-        NtsRecord::SupportedAlgorithmList(_) => Sight::Other,
-        NtsRecord::FixedKeyRequest { c2s: _, s2c: _ } => Sight::Other,
-        NtsRecord::NtpServerDeny(p) => Sight::Name(p),
-        NtsRecord::Authentication(_) => Sight::Other,
-        NtsRecord::Unknown {
-            record_type: _,
-            critical: _,
-            data: _,
-        } => Sight::Other,
-    }
-}
-
-// A name's two cells, and the place after them; nothing where there is no room for both.
-fn put_name(table: &mut [u16], to: usize, name: Part) -> usize
-    requires { ⌜ (name .start < 65536) × (name .len < 65536) × (to ≤ length (now table)) ⌝ }
-    ensures { λ r. ⌜ PutName name (now (table .entry)) to r (now (table .exit)) ⌝ }
-{
-    if table.len() - to < 2 {
-        return to;
-    }
-    let next = to + 1;
-    table[to] = name.start as u16;
-    table[next] = name.len as u16;
-    to + 2
-}
-
-// The second pass, over a message whose walk ended: the denied names, in message order.
-fn fill(cut: &[u8], table: &mut [u16])
-    requires { ⌜ length (now cut) < 65536 ⌝ }
-    ensures { λ _. ⌜ ((at next : ℕ) (st : List Sighting) → walk reader [] 0 0 (now (cut .entry)) ≡ ended at next st
-        → 2 * length (ofKind 13 st) ≤ length (now (table .entry)) → now (table .exit) ≡ over (cells (ofKind 13 st)) (now (table .entry))) ⌝ }
-{
-    let mut at: usize = 0;
-    let mut to: usize = 0;
-    loop {
-        let answer = NtsRecord::parse(cut, at);
-        let Parsed::Read(y) = answer else {
-            return;
-        };
-        let item = y.item;
-        let sight = sight_of(item);
-        match sight {
-            Sight::Name(name) => {
-                to = put_name(table, to, name);
-            }
-            Sight::Other => {}
-            Sight::End => {
-                return;
-            }
-        }
-        at = y.next.at;
     }
 }

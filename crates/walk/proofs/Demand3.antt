@@ -60,11 +60,11 @@ module _ (f : ℕ → List ℕ → Act) (once : ℕ → Bool) (goes : (k : ℕ) 
   unknown-faultless u k w = whole-faultless R u (rw (unknown-shape (kind u) k) unknown) w
 
   -- kind 0 ends a message, and no other
-  zero-ends : (c : List ℕ) → kind c ≡ 0 → actIn R c ≡ ends
+  pub zero-ends : (c : List ℕ) → kind c ≡ 0 → actIn R c ≡ ends
   unfolding known
   zero-ends c z = known-act c (ap known z) ∙ rw z
 
-  ends-zero : (c : List ℕ) → actIn R c ≡ ends → kind c ≡ 0
+  pub ends-zero : (c : List ℕ) → actIn R c ≡ ends → kind c ≡ 0
   ends-zero c h = go (known (kind c)) refl
     where
       of-known : (z : Bool) → eqb (kind c) 0 ≡ z → cond z ends (f (kind c) (there c)) ≡ ends → kind c ≡ 0

@@ -7,3 +7,7 @@ pub mod Laws
 pub mod Known
 pub mod Demand3
 pub mod Noted
+pub mod Loop
+pub mod Meeting
+pub mod Answered
+pub mod Verdicts

@@ -45,23 +45,24 @@ step-went R st st′ at t e = by-fault (faultIn R t) refl e
     by-fault zero z q = by-act (actIn R t) z q
     by-fault (suc f) z q = let o : _≡_ {A = ℕ} 0 1 = cc in absurd (omega arith)
 
--- a step that ends the walk leaves what was noted, and its own place
-pub step-ended : (R : Reader) (st st′ : List Sighting) (at p next : ℕ) (t : List ℕ) → step R st at t ≡ stops (ended p next st′) → (p ≡ at) × (st′ ≡ st)
+-- a step that ends the walk is at a record that ends it, leaves what was noted, and its own place
+pub step-ended : (R : Reader) (st st′ : List Sighting) (at p next : ℕ) (t : List ℕ) → step R st at t ≡ stops (ended p next st′)
+    → (p ≡ at) × (st′ ≡ st) × (actIn R t ≡ ends)
 unfolding step judge meet
 step-ended R st st′ at p next t e = by-fault (faultIn R t) e
   where
-    noted : (b : Bool) → cond b (stops (stopped (record { number = 4; beside = nothing; place = at }))) (goes (st ++ (sightingOf at t ∷ []))) ≡ stops (ended p next st′) → (p ≡ at) × (st′ ≡ st)
+    noted : (b : Bool) → cond b (stops (stopped (record { number = 4; beside = nothing; place = at }))) (goes (st ++ (sightingOf at t ∷ []))) ≡ stops (ended p next st′) → (p ≡ at) × (st′ ≡ st) × (actIn R t ≡ ends)
     noted true q = let o : _≡_ {A = ℕ} 0 1 = cc in absurd (omega arith)
     noted false q = let o : _≡_ {A = ℕ} 0 1 = cc in absurd (omega arith)
 
-    by-act : (a : Act) → meet R st at (kind t) (size t) a ≡ stops (ended p next st′) → (p ≡ at) × (st′ ≡ st)
-    by-act ends q = (cc, cc)
-    by-act passes q = let o : _≡_ {A = ℕ} 0 1 = cc in absurd (omega arith)
-    by-act notes q = noted (R .once (kind t) && has (kind t) st) q
-    by-act (refuses n b) q = let o : _≡_ {A = ℕ} 0 1 = cc in absurd (omega arith)
+    by-act : (a : Act) → actIn R t ≡ a → meet R st at (kind t) (size t) a ≡ stops (ended p next st′) → (p ≡ at) × (st′ ≡ st) × (actIn R t ≡ ends)
+    by-act ends i q = (cc, cc, i)
+    by-act passes i q = let o : _≡_ {A = ℕ} 0 1 = cc in absurd (omega arith)
+    by-act notes i q = noted (R .once (kind t) && has (kind t) st) q
+    by-act (refuses n b) i q = let o : _≡_ {A = ℕ} 0 1 = cc in absurd (omega arith)
 
-    by-fault : (f : ℕ) → judge R st at t f ≡ stops (ended p next st′) → (p ≡ at) × (st′ ≡ st)
-    by-fault zero q = by-act (actIn R t) q
+    by-fault : (f : ℕ) → judge R st at t f ≡ stops (ended p next st′) → (p ≡ at) × (st′ ≡ st) × (actIn R t ≡ ends)
+    by-fault zero q = by-act (actIn R t) refl q
     by-fault (suc f) q = let o : _≡_ {A = ℕ} 0 1 = cc in absurd (omega arith)
 
 -- ---- the whole walk

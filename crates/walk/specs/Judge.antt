@@ -6,6 +6,7 @@ use mathlib.Core.Bool.{Bool, true, false, cond}
 use lib.ListN.{length, take, drop}
 use lib.Dec.{eqb}
 use Rattle.nts.specs.Refusal.{Beside, Refused}
+use Rattle.record.specs.declared.Part.{Part}
 use Rattle.walk.specs.Walk.{Reader, Sighting, Outcome, stopped, ended, walk}
 
 -- refused with a number, or accepted with contents of the form Q over the bodies
@@ -25,9 +26,23 @@ abbrev pub ofKind : ℕ → List Sighting → List Sighting
 ofKind k [] = []
 ofKind k (x ∷ st) = cond (eqb (x .of) k) (x ∷ ofKind k st) (ofKind k st)
 
+-- a record of a kind is there
+abbrev pub some : {A : Type 0} → List A → Bool
+some [] = false
+some (x ∷ l) = true
+
+-- it is missing: z; otherwise by the first
+abbrev pub withFirst : {A B : Type 0} → List A → B → (A → B) → B
+withFirst [] z f = z
+withFirst (x ∷ l) z f = f x
+
 -- the body of a noted record
 abbrev pub bodyIn : List ℕ → Sighting → List ℕ
 bodyIn m x = take (x .len) (drop (x .start) m)
+
+-- .. as a part of the message
+abbrev pub partOf : Sighting → Part
+partOf x = record { start = x .start; len = x .len }
 
 pub data Answer (Q : Type 0 → Type 0) : Type 0 where
   refused : Refused → Answer Q

@@ -7,13 +7,15 @@ use Prim.Native.Nat.{_-_}
 use native.Mathlib.Omega.{arith}
 use lib.ListN.{length}
 use Rattle.record.specs.Told.{toldParsed}
-use Rattle.request.specs.State.{unreadOf, toldWalked}
-use Rattle.request.proofs.Going.{Going, going-start, going-unread, going-few, going-inside, going-onward, going-stop, going-end, going-on}
+use Rattle.request.specs.Request.{act, once}
+use Rattle.request.specs.State.{tally, unreadOf, toldWalked}
+use Rattle.request.proofs.Meeting.{toldStep, toldItem, meets, denied-few}
+use Rattle.walk.proofs.Loop.{Going, going-start, going-unread, going-inside, going-onward, going-stop, going-end, going-on}
 use Rattle.request.proofs.walk_all.Statement.{statement}
 use Rattle.request.proofs.walk_all.Tie as tie
 
 abbrev Inv-loop : tie.InvT-loop
-Inv-loop cut at₀ found₀ at found = Going cut at found
+Inv-loop cut at₀ found₀ at found = Going act once tally toldItem meets cut at found
 
 abbrev μ-loop : tie.MeasureT-loop
 μ-loop cut at₀ found₀ at found = length cut - at
@@ -22,7 +24,7 @@ nothing-found-requires : tie.Need-nothing-found-requires Inv-loop μ-loop
 nothing-found-requires c κs = search needs
 
 loop-holds : tie.Need-loop-holds Inv-loop μ-loop
-loop-holds c = going-start _ _ (c .nothing-found .ensures)
+loop-holds c = going-start act once tally toldItem meets _ _ (c .nothing-found .ensures)
 
 parse-requires : tie.Need-parse-requires Inv-loop μ-loop
 parse-requires c κs = search needs
@@ -37,10 +39,10 @@ unread-requires : tie.Need-unread-requires Inv-loop μ-loop
 unread-requires c κs = search needs
 
 returns : tie.Need-returns Inv-loop μ-loop
-returns c = let e = c .before .enum-told .given .1 in ap toldWalked (c .unread .ensures ∙ ap unreadOf e) ∙ going-unread _ _ _ (c .before .before .before .before .loop .inv) _ (ap toldParsed (sym e) ∙ c .before .before .before .parse .ensures)
+returns c = let e = c .before .enum-told .given .1 in ap toldWalked (c .unread .ensures ∙ ap unreadOf e) ∙ going-unread act once tally toldItem meets _ _ _ (c .before .before .before .before .loop .inv) _ (ap toldParsed (sym e) ∙ c .before .before .before .parse .ensures)
 
 take-record-requires : tie.Need-take-record-requires Inv-loop μ-loop
-take-record-requires c κs = omega (arith, going-few _ _ _ (c .before .before .before .before .loop .inv), c .before .before .before .before .loop .inv .inside)
+take-record-requires c κs = omega (arith, denied-few _ _ _ (c .before .before .before .before .loop .inv), c .before .before .before .before .loop .inv .inside)
 
 enum-known-step : tie.Need-enum-known-step Inv-loop μ-loop
 enum-known-step c = search needs
@@ -49,19 +51,19 @@ enum-known-step-2 : tie.Need-enum-known-step-2 Inv-loop μ-loop
 enum-known-step-2 c = search needs
 
 returns-2 : tie.Need-returns-2 Inv-loop μ-loop
-returns-2 c = going-stop _ _ _ (c .before .before .before .before .before .before .before .before .loop .inv) (c .before .before .before .before .before .answer .given .0 .0 .item) (c .before .before .before .before .before .answer .given .0 .0 .next .at) (ap toldParsed (sym (c .before .before .before .before .before .answer .given .1)) ∙ c .before .before .before .before .before .before .before .parse .ensures) _ (sym (c .before .step2 .given .1) ∙ c .before .before .before .take-record .ensures)
+returns-2 c = going-stop act once tally toldItem meets _ _ _ (c .before .before .before .before .before .before .before .before .loop .inv) (c .before .before .before .before .before .answer .given .0 .0 .item) (c .before .before .before .before .before .answer .given .0 .0 .next .at) (ap toldParsed (sym (c .before .before .before .before .before .answer .given .1)) ∙ c .before .before .before .before .before .before .before .parse .ensures) _ (ap (toldStep _ _) (sym (c .before .step2 .given .1) ∙ c .before .before .before .take-record .ensures))
 
 enum-told-2 : tie.Need-enum-told-2 Inv-loop μ-loop
 enum-told-2 c = search needs
 
 returns-3 : tie.Need-returns-3 Inv-loop μ-loop
-returns-3 c = going-end _ _ _ (c .before .before .before .before .before .before .before .loop .inv) (c .before .before .before .before .answer .given .0 .0 .item) (c .before .before .before .before .answer .given .0 .0 .next .at) (ap toldParsed (sym (c .before .before .before .before .answer .given .1)) ∙ c .before .before .before .before .before .before .parse .ensures) (sym (c .enum-told2 .given .1) ∙ c .before .before .take-record .ensures)
+returns-3 c = going-end act once tally toldItem meets _ _ _ (c .before .before .before .before .before .before .before .loop .inv) (c .before .before .before .before .answer .given .0 .0 .item) (c .before .before .before .before .answer .given .0 .0 .next .at) (ap toldParsed (sym (c .before .before .before .before .answer .given .1)) ∙ c .before .before .before .before .before .before .parse .ensures) (ap (toldStep _ _) (sym (c .enum-told2 .given .1) ∙ c .before .before .take-record .ensures))
 
 loop-less : tie.Need-loop-less Inv-loop μ-loop
-loop-less c = omega (arith, going-inside _ _ _ (c .before .before .before .before .before .before .before .before .loop .inv) (c .before .before .before .before .before .answer .given .0 .0 .item) (c .before .before .before .before .before .answer .given .0 .0 .next .at) (ap toldParsed (sym (c .before .before .before .before .before .answer .given .1)) ∙ c .before .before .before .before .before .before .before .parse .ensures), going-onward _ _ _ (c .before .before .before .before .before .before .before .before .loop .inv) (c .before .before .before .before .before .answer .given .0 .0 .item) (c .before .before .before .before .before .answer .given .0 .0 .next .at) (ap toldParsed (sym (c .before .before .before .before .before .answer .given .1)) ∙ c .before .before .before .before .before .before .before .parse .ensures))
+loop-less c = omega (arith, going-inside act once tally toldItem meets _ _ _ (c .before .before .before .before .before .before .before .before .loop .inv) (c .before .before .before .before .before .answer .given .0 .0 .item) (c .before .before .before .before .before .answer .given .0 .0 .next .at) (ap toldParsed (sym (c .before .before .before .before .before .answer .given .1)) ∙ c .before .before .before .before .before .before .before .parse .ensures), going-onward act once tally toldItem meets _ _ _ (c .before .before .before .before .before .before .before .before .loop .inv) (c .before .before .before .before .before .answer .given .0 .0 .item) (c .before .before .before .before .before .answer .given .0 .0 .next .at) (ap toldParsed (sym (c .before .before .before .before .before .answer .given .1)) ∙ c .before .before .before .before .before .before .before .parse .ensures))
 
 loop-again : tie.Need-loop-again Inv-loop μ-loop
-loop-again c = going-on _ _ _ (c .before .before .before .before .before .before .before .before .loop .inv) (c .before .before .before .before .before .answer .given .0 .0 .item) (c .before .before .before .before .before .answer .given .0 .0 .next .at) (ap toldParsed (sym (c .before .before .before .before .before .answer .given .1)) ∙ c .before .before .before .before .before .before .before .parse .ensures) _ (sym (c .before .step .given .1) ∙ c .before .before .before .take-record .ensures)
+loop-again c = going-on act once tally toldItem meets _ _ _ (c .before .before .before .before .before .before .before .before .loop .inv) (c .before .before .before .before .before .answer .given .0 .0 .item) (c .before .before .before .before .before .answer .given .0 .0 .next .at) (ap toldParsed (sym (c .before .before .before .before .before .answer .given .1)) ∙ c .before .before .before .before .before .before .before .parse .ensures) _ (ap (toldStep _ _) (sym (c .before .step .given .1) ∙ c .before .before .before .take-record .ensures))
 
 pub walk-all-spec : {M : Type 1} → statement M
 walk-all-spec =

@@ -34,7 +34,7 @@ is-exchange-requires : tie.Need-is-exchange-requires
 is-exchange-requires c κs = search needs
 
 fill-requires : tie.Need-fill-requires
-fill-requires c κs = rw (c .before .before .before .before .before .before .before .before .cut-at .ensures) (simp length-take (omega arith))
+fill-requires c κs = search needs
 
 same-length : tie.Need-same-length
 same-length c = search needs

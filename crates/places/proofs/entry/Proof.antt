@@ -1,14 +1,14 @@
--- `request::denied_name` meets its contract: past the last pair of cells the length reads as 0.
+-- `places::entry` meets its contract: past the last pair of cells the length reads as 0.
 -- Assumes nothing.
 use denote.Ref.{now}
 use mathlib.Core.Path.{_∙_}
 use native.Mathlib.Omega.{arith}
 use Prim.Native.Nat.{_+_, _*_}
-use Rattle.request.specs.Request.{nameIn}
-use Rattle.request.proofs.Names.{no-name}
+use Rattle.places.specs.Places.{entryIn}
+use Rattle.places.proofs.Cells.{no-entry}
 use borrow.Author.Needs.{needs}
-use Rattle.request.proofs.denied_name.Statement.{statement}
-use Rattle.request.proofs.denied_name.Tie as tie
+use Rattle.places.proofs.entry.Statement.{statement}
+use Rattle.places.proofs.entry.Tie as tie
 
 mul-at : tie.Need-mul-at
 mul-at c = search needs
@@ -38,17 +38,17 @@ part-requires : tie.Need-part-requires
 part-requires c κs = search needs
 
 returns : tie.Need-returns
-unfolding nameIn
+unfolding entryIn
 returns c = c .part .ensures
 
 part-requires-2 : tie.Need-part-requires-2
 part-requires-2 c κs = search needs
 
 returns-2 : tie.Need-returns-2
-returns-2 c = c .part2 .ensures ∙ no-name _ _ _ (c .before .if1 .left)
+returns-2 c = c .part2 .ensures ∙ no-entry _ _ _ (c .before .if1 .left)
 
-pub denied-name-spec : {M : Type 1} → statement M
-denied-name-spec =
+pub entry-spec : {M : Type 1} → statement M
+entry-spec =
     tie.close
     (tie.spec
     mul-at

@@ -1,4 +1,4 @@
--- `request::cut_at` meets its contract: past the end a cut takes all.
+-- `places::cut_at` meets its contract: past the end a cut takes all.
 -- Assumes nothing.
 use mathlib.Core.Path.{refl, sym, _∙_}
 use native.Mathlib.Omega.{arith}
@@ -7,8 +7,8 @@ use lib.Seq.{take-all}
 use lib.ListN.{length}
 use native.Mathlib.Nat.{sub-zero}
 use borrow.Author.Needs.{needs}
-use Rattle.request.proofs.cut_at.Statement.{statement}
-use Rattle.request.proofs.cut_at.Tie as tie
+use Rattle.places.proofs.cut_at.Statement.{statement}
+use Rattle.places.proofs.cut_at.Tie as tie
 
 sub-result : tie.Need-sub-result
 sub-result c = search needs
