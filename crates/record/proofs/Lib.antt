@@ -6,3 +6,4 @@ pub mod Apart
 pub mod Same
 pub mod Inverse
 pub mod Trip
+pub mod Whole

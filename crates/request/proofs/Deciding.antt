@@ -15,13 +15,6 @@ use Rattle.request.specs.Request.{Told, fixedKeyIs}
 use Rattle.request.specs.State.{refusedAt, keyedIn, keysIn}
 use Rattle.request.specs.declared.Found.{Found}
 
--- a test that passed, and one that did not
-pub taken : {A : Type 0} (b : Bool) (x y : A) → b ≡ true → x ≡ cond b x y
-taken b x y e = rw e
-
-pub left : {A : Type 0} (b : Bool) (x y : A) → b ≡ false → y ≡ cond b x y
-left b x y e = rw e
-
 -- a and p are the numbers read, and d what is known of the algorithm
 module _ (m : List ℕ) (f : Found) (at a p : ℕ) (d : Description) (ea : a ≡ numberAt m (f .algorithms .body .start)) (ep : p ≡ numberAt m (f .protocols .body .start)) (ed : toldDescription d ≡ describe a) where
   pub right-keys : (k : AlgorithmDescription) → d ≡ Known k → f .keys .c2s .len ≡ k .keysize

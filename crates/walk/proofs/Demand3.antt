@@ -17,7 +17,8 @@ use Rattle.walk.specs.Judge.{Judge, refused, accepted, readBy}
 use Rattle.walk.specs.Message.{Whole, Record, End, Each, recordsOf, flat, message, Parts, contents, Shows}
 use Rattle.walk.specs.Table.{known, actBy, tableReader}
 use Rattle.walk.proofs.Chunks.{each-map}
-use Rattle.walk.proofs.Faultless.{skipped, unknown, whole-faultless}
+use Rattle.record.proofs.Whole.{skipped, unknown}
+use Rattle.walk.proofs.Faultless.{whole-faultless}
 use Rattle.walk.proofs.Passing.{noted, Inner, Last}
 use Rattle.walk.proofs.Reorder.{bodiesOf, flat-append}
 use Rattle.walk.proofs.Known.{unknown-shape}

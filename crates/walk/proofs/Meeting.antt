@@ -60,7 +60,7 @@ same-part p a n e =
     λ i. record { start = s i; len = l i }
 
 module _ (at : ℕ) (t : List ℕ) (item : NtsRecord) (e : toldRecord item ≡ seenOf (kind t) (critical t) (at + 4) (size t) (there t)) where
-  kind-is : kind t ≡ kindOfRecord item
+  pub kind-is : kind t ≡ kindOfRecord item
   kind-is = seen-kind (kind t) (critical t) (at + 4) (size t) (there t) (kindOfRecord item) (valueOfRecord item) e
 
   pub value-of : valueOfRecord item ≡ valueOf (shapeOf (kindOfRecord item)) (critical t) (at + 4) (size t) (there t)

@@ -12,6 +12,14 @@ use Rattle.walk.specs.Judge.{Verdict, no, yes, Judge, ofKind, some, with
 use Rattle.walk.proofs.Laws.{mapVerdict}
 use Rattle.walk.proofs.Noted.{Inside, walk-inside}
 
+-- ---- a test that passed, and one that did not
+
+pub taken : {A : Type 0} (b : Bool) (x y : A) → b ≡ true → x ≡ cond b x y
+taken b x y e = rw e
+
+pub left : {A : Type 0} (b : Bool) (x y : A) → b ≡ false → y ≡ cond b x y
+left b x y e = rw e
+
 -- ---- whether a record of a kind is there
 
 pub some-length : {A : Type 0} (l l′ : List A) → length l ≡ length l′ → some l ≡ some l′

@@ -2,7 +2,7 @@
 -- Assumes nothing.
 use mathlib.Core.Path.{_∙_}
 use Rattle.request.specs.State.{decidedIn}
-use Rattle.request.proofs.Deciding.{taken, left}
+use Rattle.walk.proofs.Verdicts.{taken, left}
 use borrow.Author.Needs.{needs}
 use Rattle.request.proofs.decide.Statement.{statement}
 use Rattle.request.proofs.decide.Tie as tie

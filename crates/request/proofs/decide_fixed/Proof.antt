@@ -3,7 +3,7 @@
 use mathlib.Core.Path.{ap, sym, _∙_}
 use Rattle.request.specs.Request.{toldAnswer}
 use Rattle.request.specs.State.{fixedIn}
-use Rattle.request.proofs.Deciding.{taken}
+use Rattle.walk.proofs.Verdicts.{taken}
 use borrow.Author.Needs.{needs}
 use Rattle.request.proofs.decide_fixed.Statement.{statement}
 use Rattle.request.proofs.decide_fixed.Tie as tie

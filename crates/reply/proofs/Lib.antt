@@ -1,0 +1,7 @@
+pub mod Meeting
+pub mod Decided
+pub mod Answering
+pub mod Apart
+pub mod Same
+pub mod Lawful
+pub mod Order

@@ -1,0 +1,129 @@
+-- A reply to a key-exchange request: 01, "Choosing and replying", "The reply reader goes in record order".
+use Prim.Native.Nat.{ℕ}
+use mathlib.Core.Path.{_≡_}
+use mathlib.Core.List.{List, [], _∷_, map}
+use mathlib.Core.Bool.{Bool, cond, _&&_, _||_}
+use lib.ListN.{length}
+use lib.Dec.{ltb, eqb}
+use Rattle.wire.specs.Bytes.{numberAt}
+use Rattle.wire.specs.Over.{over}
+use Rattle.nts.specs.Refusal.{nothing, code, Refused, toldRefusal}
+use Rattle.record.specs.declared.Part.{Part}
+use Rattle.walk.specs.Walk.{Act, notes, refuses, Reader, Sighting}
+use Rattle.walk.specs.Judge as judge
+use Rattle.walk.specs.Judge.{Verdict, no, yes, Judge, some, withFirst, bodyIn, partOf, readBy}
+use Rattle.walk.specs.Table.{tableReader}
+use Rattle.places.specs.Places.{cells, roomOf}
+use Rattle.reply.specs.declared.KeyExchangeResponse.{KeyExchangeResponse}
+use Rattle.reply.specs.declared.Server.{Server}
+use Rattle.reply.specs.declared.Server.the-variants as server
+use Rattle.reply.specs.declared.Port.{Port}
+use Rattle.reply.specs.declared.Port.the-variants as port
+use Rattle.reply.specs.declared.Answer.{Answer}
+use Rattle.reply.specs.declared.Answer.the-variants as answer
+
+-- ---- in record order
+
+-- 11 for an error and 12 for a warning, with its code; 4 for a list longer than one, and for kinds 9, 10, 12, 13, 14; any other known record
+-- is noted
+unfoldable pub act : ℕ → List ℕ → Act
+act k b =
+    cond (eqb k 2) (refuses 11 (code (numberAt b 0)))
+    (cond (eqb k 3) (refuses 12 (code (numberAt b 0)))
+    (cond ((eqb k 1 || eqb k 4) && ltb 2 (length b)) (refuses 4 nothing)
+    (cond (eqb k 9 || eqb k 10 || eqb k 12 || eqb k 13 || eqb k 14) (refuses 4 nothing)
+    notes)))
+
+-- 4 for a second 1, 4, 6 or 7
+unfoldable pub once : ℕ → Bool
+once k = eqb k 1 || eqb k 4 || eqb k 6 || eqb k 7
+
+abbrev pub reader : Reader
+reader = tableReader act once
+
+-- ---- after the end
+
+-- what may have been sent or not
+pub data Sent (A : Type 0) : Type 0 where
+  notSent : Sent A
+  sent : A → Sent A
+
+abbrev pub mapSent : {A B : Type 0} → (A → B) → Sent A → Sent B
+mapSent f notSent = notSent
+mapSent f (sent x) = sent (f x)
+
+abbrev pub firstSent : {A : Type 0} → List A → Sent A
+firstSent [] = notSent
+firstSent (x ∷ l) = sent x
+
+-- an accepted reply, over what stands for a body: the protocol's list, the algorithm's list, server and port, each if sent, whether keep-alive
+-- was there, and the cookies in message order
+pub data Form (A : Type 0) : Type 0 where
+  reply : A → A → Sent A → Sent A → Bool → List A → Form A
+
+abbrev pub mapForm : {A B : Type 0} → (A → B) → Form A → Form B
+mapForm f (reply p a s t k c) = reply (f p) (f a) (mapSent f s) (mapSent f t) k (map f c)
+
+-- no list 1 is 4, empty is 13, no list 4 is 4, empty is 14, no cookie is 15, more cookies than table room is 7
+unfoldable pub decide : ℕ → {A : Type 0} → (A → List ℕ) → (ℕ → List A) → Verdict Form A
+decide room val l =
+    withFirst (l 1) (no 4 nothing)
+    (λ p. cond (eqb (length (val p)) 0) (no 13 nothing)
+    (withFirst (l 4) (no 4 nothing)
+    (λ a. cond (eqb (length (val a)) 0) (no 14 nothing)
+    (cond (eqb (length (l 5)) 0) (no 15 nothing)
+    (cond (ltb room (length (l 5))) (no 7 nothing)
+    (yes (reply p a (firstSent (l 6)) (firstSent (l 7)) (some (l 8)) (l 5))))))))
+
+abbrev pub judgeBy : ℕ → Judge
+judgeBy room = record { Q = Form; mapQ = λ {A} {B} f q. mapForm f q; decide = λ {A} val l. decide room val l }
+
+-- a message m read as if it were cut after n bytes, with a table that has room for so many cookies
+unfoldable pub replyOf : List ℕ → ℕ → ℕ → judge.Answer Form
+replyOf m n room = readBy reader (judgeBy room) m n
+
+-- ---- what is answered
+
+-- protocol, algorithm, the server's name as a part of the message and the port, each if sent, keep-alive, and the cookie count
+pub data Told : Type 0 where
+  replyIs : ℕ → ℕ → Sent Part → Sent ℕ → Bool → ℕ → Told
+  refusedWith : Refused → Told
+
+abbrev pub toldForm : List ℕ → Form Sighting → Told
+toldForm m (reply p a s t k c) =
+    replyIs (numberAt (bodyIn m p) 0) (numberAt (bodyIn m a) 0) (mapSent partOf s) (mapSent (λ (x : Sighting). numberAt (bodyIn m x) 0) t) k (length c)
+
+abbrev pub toldBy : List ℕ → judge.Answer Form → Told
+toldBy m (judge.refused r) = refusedWith r
+toldBy m (judge.accepted q) = toldForm m q
+
+-- what each case of the answer says
+abbrev pub toldServer : Server → Sent Part
+toldServer (server.Sent p) = sent p
+toldServer server.NotSent = notSent
+
+abbrev pub toldPort : Port → Sent ℕ
+toldPort (port.Sent n) = sent n
+toldPort port.NotSent = notSent
+
+abbrev pub toldReply : KeyExchangeResponse → Told
+toldReply x = replyIs (x .protocol .0) (x .algorithm .0) (toldServer (x .server)) (toldPort (x .port)) (x .«keep_alive») (x .cookies)
+
+abbrev pub toldAnswer : Answer → Told
+toldAnswer (answer.Accepted x) = toldReply x
+toldAnswer (answer.Refused r) = refusedWith (toldRefusal r)
+
+-- ---- the table of cookies
+
+-- only an accepted reply writes any
+abbrev pub cookiesOf : judge.Answer Form → List Sighting
+cookiesOf (judge.refused r) = []
+cookiesOf (judge.accepted (reply p a s t k c)) = c
+
+unfoldable pub tableAfter : judge.Answer Form → List ℕ → List ℕ
+tableAfter x table = over (cells (cookiesOf x)) table
+
+-- the reader's contract: what it answers, and the table afterwards
+pub record Reads (m : List ℕ) (n : ℕ) (table : List ℕ) (r : Answer) (table′ : List ℕ) : Type 0 where
+  pub says : toldAnswer r ≡ toldBy m (replyOf m n (roomOf table))
+  pub left : table′ ≡ tableAfter (replyOf m n (roomOf table)) table
