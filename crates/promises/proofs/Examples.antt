@@ -22,14 +22,14 @@ use Rattle.promises.proofs.Demand3.{accepted-is, reordered, inserted, i
 
 -- ---- records
 
-abbrev end : List ℕ
+abbrev pub end : List ℕ
 end = 128 ∷ 0 ∷ 0 ∷ 0 ∷ []
 
 -- protocol 0, and algorithm 15
-abbrev protocols : List ℕ
+abbrev pub protocols : List ℕ
 protocols = 128 ∷ 1 ∷ 0 ∷ 2 ∷ 0 ∷ 0 ∷ []
 
-abbrev algorithms : List ℕ
+abbrev pub algorithms : List ℕ
 algorithms = 128 ∷ 4 ∷ 0 ∷ 2 ∷ 0 ∷ 15 ∷ []
 
 -- the denied names "a" and "b"
@@ -39,7 +39,7 @@ name-a = 0 ∷ 13 ∷ 0 ∷ 1 ∷ 97 ∷ []
 abbrev name-b : List ℕ
 name-b = 0 ∷ 13 ∷ 0 ∷ 1 ∷ 98 ∷ []
 
-abbrev keep-alive : List ℕ
+abbrev pub keep-alive : List ℕ
 keep-alive = 0 ∷ 8 ∷ 0 ∷ 0 ∷ []
 
 abbrev wanted-protocols : List ℕ
@@ -57,17 +57,17 @@ abbrev authentication : List ℕ
 authentication = 0 ∷ 14 ∷ 0 ∷ 1 ∷ 107 ∷ []
 
 -- kind 16,384, with its bit clear and with its bit set
-abbrev unknown : List ℕ
+abbrev pub unknown : List ℕ
 unknown = 64 ∷ 0 ∷ 0 ∷ 1 ∷ 7 ∷ []
 
-abbrev unknown-set : List ℕ
+abbrev pub unknown-set : List ℕ
 unknown-set = 192 ∷ 0 ∷ 0 ∷ 1 ∷ 7 ∷ []
 
 -- another tail
-abbrev tail : List ℕ
+abbrev pub tail : List ℕ
 tail = 1 ∷ 2 ∷ 3 ∷ []
 
-a-record : (c : List ℕ) (k : ℕ) → Whole c → kind c ≡ suc k → Record c
+pub a-record : (c : List ℕ) (k : ℕ) → Whole c → kind c ≡ suc k → Record c
 a-record c k w e = (w, λ z. omega arith)
 
 -- ---- messages, and another order of each
@@ -103,7 +103,7 @@ lists-order = List·Permᴰ·swap refl refl
 
 -- ---- they are accepted
 
-abbrev sighting : ℕ → ℕ → ℕ → Sighting
+abbrev pub sighting : ℕ → ℕ → ℕ → Sighting
 sighting k start n = record { of = k; start = start; len = n }
 
 abbrev exchange-answer : Form Sighting
@@ -127,7 +127,7 @@ exchange-records : Each Record exchange
 unfolding numberAt kindOf kind size
 exchange-records = (a-record protocols 0 refl refl, (a-record name-a 12 refl refl, (a-record algorithms 3 refl refl, (a-record name-b 12 refl refl, tt))))
 
-the-end : End end
+pub the-end : End end
 unfolding numberAt kindOf kind size
 the-end = (refl, refl)
 

@@ -201,16 +201,23 @@ fn on_unless(second: bool, next: Found) -> Step
     Step::On(next)
 }
 
+// The same of a list, which may have one entry.
+fn on_list(second: bool, body: Part, next: Found) -> Step
+    ensures { λ r. ⌜ r ≡ listMet second body next ⌝ }
+{
+    if NUMBER < body.len {
+        return on_unless(true, next);
+    }
+    on_unless(second, next)
+}
+
 fn take_protocols(found: Found, body: Part) -> Step
     ensures { λ r. ⌜ r ≡ listMet (found .protocols .there) body (withProtocols found (here body)) ⌝ }
 {
     let mut next = found;
     let slot = Slot { there: true, body };
     next.protocols = slot;
-    if NUMBER < body.len {
-        return on_unless(true, next);
-    }
-    on_unless(found.protocols.there, next)
+    on_list(found.protocols.there, body, next)
 }
 
 fn take_algorithms(found: Found, body: Part) -> Step
@@ -219,10 +226,7 @@ fn take_algorithms(found: Found, body: Part) -> Step
     let mut next = found;
     let slot = Slot { there: true, body };
     next.algorithms = slot;
-    if NUMBER < body.len {
-        return on_unless(true, next);
-    }
-    on_unless(found.algorithms.there, next)
+    on_list(found.algorithms.there, body, next)
 }
 
 fn take_server(found: Found, body: Part) -> Step
