@@ -1,0 +1,4 @@
+pub mod Searching
+pub mod Verdict
+pub mod Common
+pub mod Same

@@ -1,0 +1,27 @@
+-- Any two results that meet the public function's contract are the same: over the contract itself.
+-- Assumes nothing.
+use mathlib.Core.Path.{_≡_, sym, ap, _∙_}
+use Prim.Native.Nat.{ℕ}
+use native.Mathlib.Omega.{arith}
+use Rattle.nts.specs.Refusal.{numberOf, besideOf}
+use Rattle.nts.proofs.Apart.{error-apart}
+use Rattle.negotiation.specs.Negotiation.{toldChoice}
+use Rattle.negotiation.specs.declared.Choice.{Choice}
+use Rattle.negotiation.specs.declared.Choice.the-variants.{Chosen, Refused}
+use Rattle.negotiation.proofs.choose.Reads as choose
+
+-- what is told of an answer tells any two answers apart
+pub choice-apart : (x y : Choice) → toldChoice x ≡ toldChoice y → x ≡ y
+choice-apart (Chosen x) (Chosen y) e =
+    let p : x .protocol .0 ≡ y .protocol .0 = cc in
+    let a : x .algorithm .0 ≡ y .algorithm .0 = cc in
+    λ j. Chosen (record { protocol = record { 0 = p j }; algorithm = record { 0 = a j } })
+choice-apart (Chosen x) (Refused d) e = let o : _≡_ {A = ℕ} 0 1 = cc in absurd (omega arith)
+choice-apart (Refused c) (Chosen y) e = let o : _≡_ {A = ℕ} 0 1 = cc in absurd (omega arith)
+choice-apart (Refused c) (Refused d) e =
+    let n : numberOf c ≡ numberOf d = cc in
+    let b : besideOf c ≡ besideOf d = cc in
+    ap Refused (error-apart c d n b)
+
+pub choose-same : (κs : _) (a : _) (r r′ : _) (e e′ : _) → choose.Learnt κs a r e → choose.Learnt κs a r′ e′ → r ≡ r′
+choose-same κs a r r′ e e′ p q = choice-apart r r′ (p ∙ sym q)
