@@ -1,6 +1,6 @@
 //! Makes the stand-in for the crate's module `nts`: the needed items of its mod.rs, cut out by line number, and its
-//! files record.rs and messages.rs, which are compiled where they stand. Beside them a copy of messages.rs, in which one
-//! constant is raised.
+//! files record.rs and messages.rs, which are compiled where they stand. Beside them two copies of messages.rs: one in
+//! which one constant is raised, and one in which, besides, the reader of replies is document 01's by four edits.
 
 use std::{env, fs, path::PathBuf};
 
@@ -11,9 +11,42 @@ const ITEMS: [(usize, usize, &str, &str); 3] = [
     (153, 305, "#[derive(Debug, Clone, Copy, PartialEq, Eq, Hash)]", "impl std::error::Error for NtsError {}"),
 ];
 
-/// The limit of messages.rs, and what the copy has in its place.
-const LIMIT: &str = "const MAX_MESSAGE_SIZE: u64 = 4096;";
-const RAISED_LIMIT: &str = "const MAX_MESSAGE_SIZE: u64 = 65535;";
+/// The limit of messages.rs, and what the copies have in its place.
+const RAISED_LIMIT: Edit = ("const MAX_MESSAGE_SIZE: u64 = 4096;", "const MAX_MESSAGE_SIZE: u64 = 65535;");
+
+/// The lines of messages.rs between which its reader of replies stands.
+const REPLY_READER: [&str; 2] = ["impl KeyExchangeResponse<'_> {\n", "    pub async fn serialize(\n"];
+
+/// What makes that reader document 01's: four differences, each taken away by the edits below its name.
+const EDITS: [Edit; 9] = [
+    // An empty list is refused after the end record.
+    ("None => return Err(NtsError::NoOverlappingProtocol),", "None => protocol = Some(None),"),
+    ("Some((&id, [])) => protocol = Some(id),", "Some((&id, [])) => protocol = Some(Some(id)),"),
+    ("None => return Err(NtsError::NoOverlappingAlgorithm),", "None => algorithm = Some(None),"),
+    ("Some((&id, [])) => algorithm = Some(id),", "Some((&id, [])) => algorithm = Some(Some(id)),"),
+    (
+        "        if let (Some(protocol), Some(algorithm)) = (protocol, algorithm) {\n",
+        "        let protocol = Some(protocol.ok_or(NtsError::Invalid)?.ok_or(NtsError::NoOverlappingProtocol)?);
+        let algorithm = Some(algorithm.ok_or(NtsError::Invalid)?.ok_or(NtsError::NoOverlappingAlgorithm)?);
+        if let (Some(protocol), Some(algorithm)) = (protocol, algorithm) {\n",
+    ),
+    // Kind 14 is not allowed.
+    ("NtsRecord::Unknown { .. } | NtsRecord::Authentication { .. } => {}", "NtsRecord::Unknown { .. } => {}"),
+    ("NtsRecord::NtpServerDeny { .. }", "NtsRecord::Authentication { .. } | NtsRecord::NtpServerDeny { .. }"),
+    // A reply without a cookie is refused.
+    (
+        "            Ok(KeyExchangeResponse {\n",
+        "            if cookies.is_empty() {
+                return Err(NtsError::NoCookie);
+            }
+            Ok(KeyExchangeResponse {\n",
+    ),
+    // Every cookie is kept.
+    ("if cookies.len() < DEFAULT_NUMBER_OF_COOKIES {", "if cookies.len() < usize::MAX {"),
+];
+
+/// What stands in a text once, and what takes its place.
+type Edit = (&'static str, &'static str);
 
 fn main() {
     println!("cargo::rerun-if-env-changed=CRATE_FILES");
@@ -38,13 +71,31 @@ fn main() {
         assert!(file.is_file(), "{} is missing", file.display());
         out.push_str(&format!("#[path = {file:?}]\nmod {name};\n"));
     }
-    let folder = PathBuf::from(env::var("OUT_DIR").expect("OUT_DIR"));
     let messages = nts.join("messages.rs");
     println!("cargo::rerun-if-changed={}", messages.display());
     let text = fs::read_to_string(messages).expect("the crate's nts/messages.rs");
-    assert_eq!(text.matches(LIMIT).count(), 1, "nts/messages.rs: {LIMIT}");
-    let raised = folder.join("messages_raised.rs");
-    fs::write(&raised, text.replace(LIMIT, RAISED_LIMIT)).expect("writing messages_raised.rs");
-    out.push_str(&format!("#[path = {raised:?}]\nmod messages_raised;\n"));
+    let raised = edited(&text, RAISED_LIMIT);
+    let folder = PathBuf::from(env::var("OUT_DIR").expect("OUT_DIR"));
+    for (name, text) in [("messages_raised", &raised), ("messages_edited", &with_document_01s_reader(&raised))] {
+        let file = folder.join(format!("{name}.rs"));
+        fs::write(&file, text).expect("writing a copy of messages.rs");
+        // The edited copy has no use for the crate's number of cookies.
+        out.push_str(&format!("#[allow(unused_imports)]\n#[path = {file:?}]\nmod {name};\n"));
+    }
     fs::write(folder.join("nts.rs"), out).expect("writing nts.rs");
+}
+
+/// A text of messages.rs in which the reader of replies is document 01's, and nothing else is changed.
+fn with_document_01s_reader(text: &str) -> String {
+    let [first, last] = REPLY_READER;
+    assert_eq!(text.matches(first).count(), 1, "nts/messages.rs: {first}");
+    let (before, rest) = text.split_once(first).expect("the reader of replies");
+    let (reader, behind) = rest.split_once(last).expect("the end of the reader of replies");
+    let reader = EDITS.iter().fold(reader.to_owned(), |reader, &edit| edited(&reader, edit));
+    [before, first, &reader, last, behind].concat()
+}
+
+fn edited(text: &str, (from, to): Edit) -> String {
+    assert_eq!(text.matches(from).count(), 1, "nts/messages.rs: {from}");
+    text.replace(from, to)
 }

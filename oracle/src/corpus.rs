@@ -4,6 +4,11 @@ use std::io::{self, BufRead, Read, Write};
 
 /// A longer payload is a bad case.
 pub const LONGEST: usize = 66_000;
+/// The limit of ops q and y, which is the crate's own, and the largest there is.
+pub const CRATES_LIMIT: usize = 4096;
+pub const LARGEST_LIMIT: usize = 65_535;
+/// Cells of the largest table; an entry takes two.
+pub const CELLS: usize = 2048;
 
 /// Cases in order. The payload of the last one read stands in `payload`, empty where it was too long.
 pub struct Cases<R> {

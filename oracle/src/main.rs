@@ -20,7 +20,9 @@ mod nts {
     mod lines;
     mod poll;
     mod reading;
+    pub mod replies;
     mod requests;
+    mod whole;
     mod writing;
 }
 

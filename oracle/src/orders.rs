@@ -6,12 +6,8 @@ use std::fmt;
 use std::io::{self, BufRead, Write};
 
 use crate::compare::{LEAST, SHOWN, hexadecimal, next_line, open, shortened};
-use crate::corpus::Cases;
+use crate::corpus::{CRATES_LIMIT, Cases, LARGEST_LIMIT};
 use crate::generate::{CRITICAL, is_known};
-
-const LARGEST_LIMIT: usize = 65_535;
-/// The limit of the crate's own file; a longer message is read by the copy.
-const CRATES_LIMIT: usize = 4096;
 
 /// The messages of a group, in the corpus' order.
 const SORTS: [&str; 4] = [

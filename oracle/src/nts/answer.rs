@@ -2,7 +2,7 @@
 
 use std::io::{self, BufRead, Write};
 
-use super::{lines, reading, requests, writing};
+use super::{lines, reading, replies, requests, writing};
 use crate::corpus::Cases;
 
 pub fn corpus(input: impl BufRead, out: &mut impl Write) -> io::Result<bool> {
@@ -37,6 +37,11 @@ fn answered(line: &mut Vec<u8>, op: u8, payload: &[u8]) -> Option<()> {
             Some(())
         }
         b'L' => requests::under_a_limit(line, payload),
+        b'y' => {
+            replies::under_the_crates_limit(line, payload);
+            Some(())
+        }
+        b'l' => replies::under_a_limit(line, payload),
         b'w' => writing::written(line, payload),
         b'W' => writing::written_into(line, payload),
         b'X' => writing::written_part(line, payload),

@@ -1,57 +1,31 @@
-//! Reading a request with the crate's `Request::parse`. The crate tells no place and has no table for names: the place
-//! is found by walking with its record reader, and refusal 7 is document 01's.
+//! Reading a request with the crate's `Request::parse`.
 
-use super::NtsError;
 use super::lines;
 use super::poll::now;
-use super::reading;
-
-/// The limit of the crate's own file, and the largest there is, that of the copy.
-const CRATES_LIMIT: usize = 4096;
-const LARGEST_LIMIT: usize = 65_535;
-/// Cells of the largest table; a name takes two.
-const CELLS: usize = 2048;
-
-const NO_ROOM: u8 = 7;
+use super::whole::{self, Accepted, Answer};
+use crate::corpus::{CELLS, CRATES_LIMIT, LARGEST_LIMIT};
 
 /// Op q: the crate's own file cuts the message.
 pub fn under_the_crates_limit(line: &mut Vec<u8>, message: &[u8]) {
-    tell(line, verbatim(message), &message[..message.len().min(CRATES_LIMIT)], CELLS);
+    whole::tell(line, verbatim(message), whole::cut(message, CRATES_LIMIT), CELLS);
 }
 
 /// Op Q.
 pub fn under_the_largest_limit(line: &mut Vec<u8>, message: &[u8]) {
-    cut(line, message, LARGEST_LIMIT, CELLS);
+    tell(line, whole::cut(message, LARGEST_LIMIT), CELLS);
 }
 
 /// Op L.
 pub fn under_a_limit(line: &mut Vec<u8>, payload: &[u8]) -> Option<()> {
-    let (&[l0, l1, c0, c1], message) = payload.split_first_chunk()?;
-    let cells = usize::from(u16::from_be_bytes([c0, c1]));
-    if cells > CELLS {
-        return None;
-    }
-    cut(line, message, usize::from(u16::from_be_bytes([l0, l1])), cells);
+    let (message, cells) = whole::limited(payload)?;
+    tell(line, message, cells);
     Some(())
 }
 
-/// A message cut at a limit: read by the crate's own file where that would not cut it again, otherwise by the copy.
-fn cut(line: &mut Vec<u8>, message: &[u8], limit: usize, cells: usize) {
-    let message = &message[..message.len().min(limit)];
+/// A cut message, read by the crate's own file where that would not cut it again, otherwise by the copy.
+fn tell(line: &mut Vec<u8>, message: &[u8], cells: usize) {
     let answer = if message.len() <= CRATES_LIMIT { verbatim(message) } else { raised(message) };
-    tell(line, answer, message, cells);
-}
-
-/// What the crate answered, and how many bytes it took for it.
-struct Answer {
-    result: Result<Accepted, NtsError>,
-    taken: usize,
-}
-
-/// A request's line and its number of denied names.
-struct Accepted {
-    line: Vec<u8>,
-    denied: usize,
+    whole::tell(line, answer, message, cells);
 }
 
 /// Reads a message with one of the two files; their types are apart, their text is the same.
@@ -76,7 +50,7 @@ macro_rules! reader {
                     for name in denied_servers.iter() {
                         lines::bytes(&mut line, name.as_bytes());
                     }
-                    Accepted { line, denied: denied_servers.len() }
+                    Accepted { line, entries: denied_servers.len() }
                 }
                 Request::FixedKey { authentication, c2s_key, s2c_key, algorithm, protocol, keep_alive } => {
                     lines::text(&mut line, "fixed-key protocol ");
@@ -88,7 +62,7 @@ macro_rules! reader {
                     lines::text(&mut line, " s2c ");
                     lines::bytes(&mut line, s2c_key.key_bytes());
                     authenticated(&mut line, &authentication, keep_alive);
-                    Accepted { line, denied: 0 }
+                    Accepted { line, entries: 0 }
                 }
                 Request::Support { authentication, wants_protocols, wants_algorithms, keep_alive } => {
                     lines::text(&mut line, "support protocols ");
@@ -96,7 +70,7 @@ macro_rules! reader {
                     lines::text(&mut line, " algorithms ");
                     lines::number(&mut line, wants_algorithms);
                     authenticated(&mut line, &authentication, keep_alive);
-                    Accepted { line, denied: 0 }
+                    Accepted { line, entries: 0 }
                 }
             });
             Answer { result, taken }
@@ -113,51 +87,4 @@ fn authenticated(line: &mut Vec<u8>, authentication: &str, keep_alive: bool) {
     lines::bytes(line, authentication.as_bytes());
     lines::text(line, " keep-alive ");
     lines::number(line, keep_alive);
-}
-
-fn tell(line: &mut Vec<u8>, answer: Answer, message: &[u8], cells: usize) {
-    let taken = answer.taken;
-    let refused = |line: &mut Vec<u8>, refusal| lines::refused_at(line, refusal, last_taken(message, taken));
-    match answer.result {
-        Ok(accepted) if accepted.denied > cells / 2 => refused(line, NO_ROOM),
-        Ok(accepted) => line.extend_from_slice(&accepted.line),
-        Err(NtsError::IO(error)) => {
-            let (refusal, place) = unread(message);
-            assert_eq!(refusal, reading::refusal(error.kind()), "the walk and the crate agree");
-            lines::refused_at(line, refusal, place);
-        }
-        Err(NtsError::UnrecognizedCriticalRecord) => refused(line, 3),
-        Err(NtsError::Invalid) => refused(line, 4),
-        Err(NtsError::AeadNotSupported(code)) => {
-            refused(line, 5);
-            lines::text(line, " code ");
-            lines::number(line, code);
-        }
-        Err(NtsError::IncorrectSizedKey) => refused(line, 6),
-        Err(other) => panic!("the crate's request reader gave {other:?}"),
-    }
-}
-
-/// The place of the record that ends where the crate stopped taking bytes: the one that it decided on, the end record
-/// where it decided after the end.
-fn last_taken(message: &[u8], taken: usize) -> u64 {
-    let mut place = 0;
-    loop {
-        let (_, size) = reading::record(&message[place..]).expect("the crate read this record");
-        if place + size == taken {
-            return place as u64;
-        }
-        place += size;
-    }
-}
-
-/// The first record that does not read: the refusal and the place.
-fn unread(message: &[u8]) -> (u8, u64) {
-    let mut place = 0;
-    loop {
-        match reading::record(&message[place..]) {
-            Ok((_, size)) => place += size,
-            Err(refusal) => return (refusal, place as u64),
-        }
-    }
 }

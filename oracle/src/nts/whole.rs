@@ -1,0 +1,96 @@
+//! What reading a request and reading a reply share. The crate tells no place and has no table: the place is found by
+//! walking with its record reader, and refusal 7 is document 01's.
+
+use super::NtsError;
+use super::lines;
+use super::reading;
+use crate::corpus::CELLS;
+
+const NO_ROOM: u8 = 7;
+
+/// A message as it is read under a limit.
+pub fn cut(message: &[u8], limit: usize) -> &[u8] {
+    &message[..message.len().min(limit)]
+}
+
+/// The payload of ops L and l: the message, cut at its limit, and the table's cells.
+pub fn limited(payload: &[u8]) -> Option<(&[u8], usize)> {
+    let (&[l0, l1, c0, c1], message) = payload.split_first_chunk()?;
+    let cells = usize::from(u16::from_be_bytes([c0, c1]));
+    (cells <= CELLS).then(|| (cut(message, usize::from(u16::from_be_bytes([l0, l1]))), cells))
+}
+
+/// What the crate answered, and how many bytes it took for it.
+pub struct Answer {
+    pub result: Result<Accepted, NtsError>,
+    pub taken: usize,
+}
+
+/// The line of an accepted message and how many entries of the table it fills.
+pub struct Accepted {
+    pub line: Vec<u8>,
+    pub entries: usize,
+}
+
+/// Writes the line of an answer to a cut message.
+pub fn tell(line: &mut Vec<u8>, answer: Answer, message: &[u8], cells: usize) {
+    let taken = answer.taken;
+    let refused = |line: &mut Vec<u8>, refusal| lines::refused_at(line, refusal, last_taken(message, taken));
+    match answer.result {
+        Ok(accepted) if accepted.entries > cells / 2 => refused(line, NO_ROOM),
+        Ok(accepted) => line.extend_from_slice(&accepted.line),
+        Err(NtsError::IO(error)) => {
+            let (refusal, place) = unread(message);
+            assert_eq!(refusal, reading::refusal(error.kind()), "the walk and the crate agree");
+            lines::refused_at(line, refusal, place);
+        }
+        Err(error) => {
+            let (refusal, code) = refusal(error);
+            refused(line, refusal);
+            if let Some(code) = code {
+                lines::text(line, " code ");
+                lines::number(line, code);
+            }
+        }
+    }
+}
+
+/// Document 01's number for an error of the crate's readers of messages, and the code that is returned with it.
+fn refusal(error: NtsError) -> (u8, Option<u16>) {
+    match error {
+        NtsError::UnrecognizedCriticalRecord => (3, None),
+        NtsError::Invalid => (4, None),
+        NtsError::AeadNotSupported(code) => (5, Some(code)),
+        NtsError::IncorrectSizedKey => (6, None),
+        NtsError::Error(code) => (11, Some(code.into())),
+        NtsError::UnknownWarning(code) => (12, Some(code)),
+        NtsError::NoOverlappingProtocol => (13, None),
+        NtsError::NoOverlappingAlgorithm => (14, None),
+        NtsError::NoCookie => (15, None),
+        other => panic!("the crate's reader gave {other:?}"),
+    }
+}
+
+/// The place of the record that ends where the crate stopped taking bytes: the one that it decided on, the end record
+/// where it decided after the end.
+fn last_taken(message: &[u8], taken: usize) -> u64 {
+    let mut place = 0;
+    loop {
+        let (_, size) = reading::record(&message[place..]).expect("the crate read this record");
+        if place + size == taken {
+            return place as u64;
+        }
+        place += size;
+    }
+}
+
+/// The first record that does not read: the refusal and the place.
+fn unread(message: &[u8]) -> (u8, u64) {
+    let mut place = 0;
+    loop {
+        match reading::record(&message[place..]) {
+            Ok((_, size)) => place += size,
+            Err(refusal) => return (refusal, place as u64),
+        }
+    }
+}
