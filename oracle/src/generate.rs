@@ -1,5 +1,6 @@
 //! Makes the corpora. Each is the same for the same seed.
 
+mod messages;
 mod names;
 mod orders;
 mod records;
@@ -11,7 +12,7 @@ mod writes;
 use std::io::{self, Write};
 
 use crate::samples;
-pub use tokens::limited;
+use requests::REQUESTS;
 
 pub const UNKNOWN: u16 = 11;
 pub const CRITICAL: u16 = 0x8000;
@@ -32,10 +33,10 @@ pub fn corpus(name: &str, seed: u64, count: Option<u64>, out: &mut impl Write) -
         "names" => names::boundaries(out)?,
         "names3" => names::of_three(out)?,
         "random" => records::random(seed, count.unwrap_or(300_000), out)?,
-        "tokens" => tokens::up_to_three(out)?,
-        "tokens4" => tokens::of_four(out)?,
-        "requests" => requests::requests(seed, count.unwrap_or(300_000), out)?,
-        "orders" => orders::orders(seed, count.unwrap_or(20_000), out)?,
+        "tokens" => tokens::up_to_three(&REQUESTS, out)?,
+        "tokens4" => tokens::of_four(&REQUESTS, out)?,
+        "requests" => messages::messages(&REQUESTS, seed, count.unwrap_or(300_000), out)?,
+        "orders" => orders::orders(&REQUESTS, seed, count.unwrap_or(20_000), out)?,
         "writes" => writes::writes(seed, count.unwrap_or(200_000), out)?,
         _ => return Err(io::Error::other(format!("no corpus is named {name}"))),
     }
@@ -48,7 +49,23 @@ pub fn record(word: u16, size: usize, there: &[u8]) -> Vec<u8> {
     [&word.to_be_bytes()[..], &size.to_be_bytes(), there].concat()
 }
 
+/// A record's type word.
+pub fn word(record: &[u8]) -> u16 {
+    u16::from_be_bytes([record[0], record[1]])
+}
+
+/// A record's kind.
+pub fn kind(record: &[u8]) -> u16 {
+    word(record) & !CRITICAL
+}
+
 /// The payload of op R.
 pub fn placed(place: u64, bytes: &[u8]) -> Vec<u8> {
     [&place.to_be_bytes()[..], bytes].concat()
+}
+
+/// The payload of ops L and l.
+pub fn limited(limit: usize, cells: usize, message: &[u8]) -> Vec<u8> {
+    let half = |number| u16::try_from(number).expect("a limit or a table's cells").to_be_bytes();
+    [&half(limit)[..], &half(cells), message].concat()
 }

@@ -7,7 +7,7 @@ use std::io::{self, BufRead, Write};
 
 use crate::compare::{LEAST, SHOWN, hexadecimal, next_line, open, shortened};
 use crate::corpus::{CRATES_LIMIT, Cases, LARGEST_LIMIT};
-use crate::generate::{CRITICAL, is_known};
+use crate::generate::{CRITICAL, is_known, kind, word};
 
 /// The messages of a group, in the corpus' order.
 const SORTS: [&str; 4] = [
@@ -281,13 +281,4 @@ impl<'a> Walk<'a> {
             _ => Some(REQUESTS[self.of_kind(13).count().min(2)]),
         }
     }
-}
-
-/// A record's type word.
-fn word(record: &[u8]) -> u16 {
-    u16::from_be_bytes([record[0], record[1]])
-}
-
-fn kind(record: &[u8]) -> u16 {
-    word(record) & !CRITICAL
 }

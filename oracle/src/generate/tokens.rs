@@ -2,7 +2,8 @@
 
 use std::io::{self, Write};
 
-use super::record;
+use super::messages::Family;
+use super::{limited, record};
 use crate::corpus::put;
 use crate::samples::hex;
 
@@ -53,7 +54,7 @@ const TOKENS: [&str; 39] = [
 /// Lengths of a key record's body.
 const KEYS: [usize; 6] = [0, 62, 64, 65, 66, 128];
 
-fn tokens() -> Vec<Vec<u8>> {
+pub fn of_requests() -> Vec<Vec<u8>> {
     let keys = KEYS.iter().map(|&size| {
         let body: Vec<u8> = (0..size).map(|index| index as u8).collect();
         record(0x800c, size, &body)
@@ -62,33 +63,32 @@ fn tokens() -> Vec<Vec<u8>> {
 }
 
 /// All sequences of up to three: as they are, with an end record, and with a limit and a table near what they need.
-pub fn up_to_three(out: &mut impl Write) -> io::Result<()> {
-    let tokens = tokens();
+pub fn up_to_three(family: &Family, out: &mut impl Write) -> io::Result<()> {
+    let tokens = (family.tokens)();
     let mut turn = 0;
     for count in 0..=3 {
         sequences(&tokens, count, &mut |sequence| {
             turn += 1;
             let bare = sequence.concat();
             let whole = [&bare[..], &END].concat();
-            put(out, b'q', &bare)?;
-            put(out, if turn % 5 == 0 { b'Q' } else { b'q' }, &whole)?;
+            put(out, family.crates, &bare)?;
+            if turn % 5 == 0 {
+                family.put_largest(out, &whole)?;
+            } else {
+                put(out, family.crates, &whole)?;
+            }
             let length = whole.len();
             let limit = [length, length - 1, length - 4, 65_535, 4096, length + 1, length / 2][turn % 7];
-            put(out, b'L', &limited(limit, turn % 9, &[&whole[..], &END].concat()))
+            put(out, family.limited, &limited(limit, turn % 9, &[&whole[..], &END].concat()))
         })?;
     }
     Ok(())
 }
 
 /// All sequences of four, with an end record.
-pub fn of_four(out: &mut impl Write) -> io::Result<()> {
-    sequences(&tokens(), 4, &mut |sequence| put(out, b'q', &[&sequence.concat()[..], &END].concat()))
-}
-
-/// The payload of op L.
-pub fn limited(limit: usize, cells: usize, message: &[u8]) -> Vec<u8> {
-    let half = |number| u16::try_from(number).expect("a limit or a table's cells").to_be_bytes();
-    [&half(limit)[..], &half(cells), message].concat()
+pub fn of_four(family: &Family, out: &mut impl Write) -> io::Result<()> {
+    let each = &mut |sequence: &[&[u8]]| put(out, family.crates, &[&sequence.concat()[..], &END].concat());
+    sequences(&(family.tokens)(), 4, each)
 }
 
 fn sequences(tokens: &[Vec<u8>], count: u32, each: &mut impl FnMut(&[&[u8]]) -> io::Result<()>) -> io::Result<()> {

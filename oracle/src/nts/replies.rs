@@ -7,7 +7,7 @@ use super::poll::now;
 use super::reading;
 use super::whole::{self, Accepted, Answer};
 use crate::corpus::{CELLS, CRATES_LIMIT};
-use crate::generate::{CRITICAL, is_known};
+use crate::generate::{CRITICAL, is_known, kind, word};
 
 /// Where the two readers ought to agree and do not, the line begins so, and the comparison fails by it.
 pub const DISAGREES: &str = "ORACLE DISAGREES";
@@ -103,16 +103,15 @@ pub fn difference_of(op: u8, payload: &[u8]) -> Option<Option<&'static str>> {
 }
 
 /// The first of the four differences that applies to a cut message. It is found by a walk of its own, with the crate's
-/// record reader, up to where both readers stop or one of them does.
+/// record reader, up to where one of the two readers stops.
 fn difference(message: &[u8]) -> Option<&'static str> {
-    let mut place = 0;
-    let mut counts = [0; 15];
+    let mut rest = message;
+    let mut counts = [0; 9];
     loop {
-        let (_, size) = reading::record(&message[place..]).ok()?;
-        let word = u16::from_be_bytes([message[place], message[place + 1]]);
-        let kind = usize::from(word & !CRITICAL);
-        place += size;
-        match (kind, size - 4) {
+        let (_, size) = reading::record(rest).ok()?;
+        let (record, behind) = rest.split_at(size);
+        rest = behind;
+        match (kind(record), size - 4) {
             (0, _) => {
                 return match (counts[1] + counts[4], counts[5]) {
                     (2, 0) => Some(NO_COOKIE),
@@ -120,13 +119,12 @@ fn difference(message: &[u8]) -> Option<&'static str> {
                     _ => None,
                 };
             }
-            // Stopped by both.
-            (1 | 4 | 6 | 7, _) if counts[kind] > 0 => return None,
+            (kind @ (1 | 4 | 6 | 7), _) if counts[usize::from(kind)] > 0 => return None,
             (1 | 4, 0) => return Some(EMPTY_LIST),
             (14, _) => return Some(AUTHENTICATION),
-            (1 | 4, 2) | (5..=8, _) => counts[kind] += 1,
-            _ if !is_known(word & !CRITICAL) && word & CRITICAL == 0 => {}
-            // An error, a warning, a longer list, a kind that is not allowed, an unknown one with its bit set.
+            (kind @ (1 | 4), 2) | (kind @ 5..=8, _) => counts[usize::from(kind)] += 1,
+            (kind, _) if !is_known(kind) && word(record) & CRITICAL == 0 => {}
+            // An error, a warning, a longer list, another kind that is not allowed, an unknown one with its bit set.
             _ => return None,
         }
     }
