@@ -4,6 +4,7 @@ mod messages;
 mod names;
 mod orders;
 mod records;
+mod replies;
 mod requests;
 mod tokens;
 mod words;
@@ -12,6 +13,7 @@ mod writes;
 use std::io::{self, Write};
 
 use crate::samples;
+use replies::REPLIES;
 use requests::REQUESTS;
 
 pub const UNKNOWN: u16 = 11;
@@ -29,6 +31,7 @@ pub fn corpus(name: &str, seed: u64, count: Option<u64>, out: &mut impl Write) -
         "cut" => records::cut_case(out)?,
         "sample-writing" => samples::writing(out)?,
         "sample-requests" => samples::requests(out)?,
+        "sample-replies" => samples::replies(out)?,
         "words" => words::every(seed, out)?,
         "names" => names::boundaries(out)?,
         "names3" => names::of_three(out)?,
@@ -36,6 +39,12 @@ pub fn corpus(name: &str, seed: u64, count: Option<u64>, out: &mut impl Write) -
         "tokens" => tokens::up_to_three(&REQUESTS, out)?,
         "tokens4" => tokens::of_four(&REQUESTS, out)?,
         "requests" => messages::messages(&REQUESTS, seed, count.unwrap_or(300_000), out)?,
+        "reply-tokens" => tokens::up_to_three(&REPLIES, out)?,
+        "reply-tokens4" => tokens::of_four(&REPLIES, out)?,
+        "replies" => {
+            replies::long_names(seed, out)?;
+            messages::messages(&REPLIES, seed, count.unwrap_or(2_300_000), out)?;
+        }
         "orders" => orders::orders(&REQUESTS, seed, count.unwrap_or(20_000), out)?,
         "writes" => writes::writes(seed, count.unwrap_or(200_000), out)?,
         _ => return Err(io::Error::other(format!("no corpus is named {name}"))),

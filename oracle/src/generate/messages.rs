@@ -97,6 +97,11 @@ pub fn word(random: &mut Random, kind: u16) -> u16 {
 /// A list of numbers, mostly of one.
 pub fn list(random: &mut Random, kind: u16) -> Vec<u8> {
     let count = if random.once_in(2) { 1 } else { random.below(5) };
+    list_of(random, kind, count)
+}
+
+/// A list of so many numbers.
+pub fn list_of(random: &mut Random, kind: u16, count: usize) -> Vec<u8> {
     let mut body = Vec::new();
     for _ in 0..count {
         let number: u16 = random.pick(&[0, 0x8001, 15, 17, 16, 7, 0xffff]);

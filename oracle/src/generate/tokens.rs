@@ -10,7 +10,7 @@ use crate::samples::hex;
 pub const END: [u8; 4] = [0x80, 0, 0, 0];
 
 /// Each is a record or two: every kind, good and faulty, as a request may have it.
-const TOKENS: [&str; 39] = [
+const REQUESTS: [&str; 39] = [
     "8000 0000",
     "0000 0002 8001",
     "8001 0002 0000",
@@ -59,7 +59,56 @@ pub fn of_requests() -> Vec<Vec<u8>> {
         let body: Vec<u8> = (0..size).map(|index| index as u8).collect();
         record(0x800c, size, &body)
     });
-    TOKENS.iter().map(|token| hex(token)).chain(keys).collect()
+    REQUESTS.iter().map(|token| hex(token)).chain(keys).collect()
+}
+
+/// Each is a record or some: every kind, good and faulty, as a reply may have it. Of two a body is cut: they take the first
+/// bytes of what follows.
+const REPLIES: [&str; 40] = [
+    "8000 0000",
+    "0000 0002 8001",
+    "8001 0002 0000",
+    "0001 0002 8001",
+    "8001 0000",
+    "8001 0004 0000 8001",
+    "8001 0003 000000",
+    "8004 0002 000F",
+    "0004 0002 0011",
+    "8004 0000",
+    "8004 0004 000F 0011",
+    "8001 0002 0000 8004 0002 000F",
+    "8004 0002 0011 8001 0002 8001",
+    "8001 0002 0000 8004 0002 000F 0005 0001 41",
+    "8002 0002 0001",
+    "8002 0003 000000",
+    "8003 0002 0000",
+    "0005 0002 4142",
+    "8005 0000",
+    "0005 0003 4142",
+    "0005 0000 0005 0001 41 8005 0000 0005 0000",
+    "0005 0000 0005 0000 0005 0000 0005 0000 0005 0000 0005 0000 0005 0000 0005 0000",
+    "8006 0001 78",
+    "0006 0000",
+    "8006 0002 C1BF",
+    "8006 0002 C3",
+    "8007 0002 007B",
+    "0008 0000",
+    "8008 0003 414243",
+    "8009 0000",
+    "800A 0004 000F 0020",
+    "800C 0000",
+    "000D 0001 61",
+    "000E 0000",
+    "800E 0002 C3A9",
+    "000E 0001 80",
+    "000B 0000",
+    "800B 0000",
+    "7FFF 0003 414243",
+    "FFFF 0001 41",
+];
+
+pub fn of_replies() -> Vec<Vec<u8>> {
+    REPLIES.iter().map(|token| hex(token)).collect()
 }
 
 /// All sequences of up to three: as they are, with an end record, and with a limit and a table near what they need.

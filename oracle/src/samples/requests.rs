@@ -3,50 +3,10 @@
 use std::io::{self, Write};
 
 use super::hex;
+use super::named::{cut_names, message};
 use super::reading::M;
 use crate::corpus::put;
 use crate::generate::limited;
-
-/// Records by a name.
-const RECORDS: [(&str, &str); 37] = [
-    ("end", "8000 0000"),
-    ("end-with-body", "0000 0003 414243"),
-    ("protocol", "8001 0002 0000"),
-    ("protocol-clear", "0001 0002 0000"),
-    ("protocols", "8001 0004 0000 8001"),
-    ("no-protocol", "8001 0000"),
-    ("protocol-odd", "8001 0003 000000"),
-    ("algorithm", "8004 0002 000F"),
-    ("algorithm-17", "8004 0002 0011"),
-    ("algorithm-16", "8004 0002 0010"),
-    ("algorithms", "8004 0004 000F 0011"),
-    ("no-algorithm", "8004 0000"),
-    ("error", "8002 0002 0001"),
-    ("error-long", "8002 0003 000000"),
-    ("warning", "8003 0002 0000"),
-    ("cookie", "0005 0002 4142"),
-    ("server", "8006 0001 78"),
-    ("server-broken", "8006 0002 C328"),
-    ("port", "8007 0002 007B"),
-    ("keep-alive", "0008 0000"),
-    ("keep-alive-with-body", "8008 0002 4142"),
-    ("want-protocols", "8009 0000"),
-    ("want-protocols-some", "0009 0002 0000"),
-    ("want-algorithms", "800A 0000"),
-    ("want-algorithms-some", "800A 0004 000F 0020"),
-    ("keys-0", "800C 0000"),
-    ("keys-odd", "800C 0001 41"),
-    ("name", "000D 0001 61"),
-    ("name-empty", "800D 0000"),
-    ("name-broken", "000D 0002 C1BF"),
-    ("authentication", "000E 0002 C3A9"),
-    ("authentication-empty", "000E 0000"),
-    ("unknown", "000B 0000"),
-    ("unknown-with-body", "7FFF 0002 4142"),
-    ("critical", "800B 0000"),
-    ("critical-largest", "FFFF 0001 41"),
-    ("critical-cut", "800F 0009 41"),
-];
 
 /// Messages that are accepted or refused by the set of their records.
 const MESSAGES: [&str; 102] = [
@@ -154,20 +114,6 @@ const MESSAGES: [&str; 102] = [
     "keys-32 authentication protocol algorithm",
 ];
 
-/// The bytes of a message told by the names of its records; `keys-N` is a key record with halves of N bytes.
-fn message(names: &str) -> Vec<u8> {
-    names.split_whitespace().flat_map(record).collect()
-}
-
-fn record(name: &str) -> Vec<u8> {
-    if let Some((_, bytes)) = RECORDS.iter().find(|(known, _)| *known == name) {
-        return hex(bytes);
-    }
-    let half: u8 = name.strip_prefix("keys-").and_then(|size| size.parse().ok()).expect("a record's name");
-    let body: Vec<u8> = (0..2 * half).collect();
-    [vec![0x80, 12, 0, 2 * half], body].concat()
-}
-
 pub fn requests(out: &mut impl Write) -> io::Result<()> {
     for names in MESSAGES {
         put(out, b'q', &message(names))?;
@@ -191,14 +137,5 @@ pub fn requests(out: &mut impl Write) -> io::Result<()> {
     for length in 0..=4 {
         put(out, b'L', &vec![0; length])?;
     }
-    cut_names(out)
-}
-
-/// A name cut by the limit between sequences, inside one and before the fault.
-fn cut_names(out: &mut impl Write) -> io::Result<()> {
-    let bytes = hex("800D 0005 41 C3A9 C328 8000 0000");
-    for limit in 0..=bytes.len() {
-        put(out, b'L', &limited(limit, 4, &bytes))?;
-    }
-    Ok(())
+    cut_names(out, b'L', "800D")
 }
