@@ -13,8 +13,9 @@ mod writes;
 use std::io::{self, Write};
 
 use crate::samples;
-use replies::REPLIES;
-use requests::REQUESTS;
+pub use messages::Family;
+pub use replies::REPLIES;
+pub use requests::REQUESTS;
 
 pub const UNKNOWN: u16 = 11;
 pub const CRITICAL: u16 = 0x8000;
@@ -45,7 +46,8 @@ pub fn corpus(name: &str, seed: u64, count: Option<u64>, out: &mut impl Write) -
             replies::long_names(seed, out)?;
             messages::messages(&REPLIES, seed, count.unwrap_or(2_300_000), out)?;
         }
-        "orders" => orders::orders(&REQUESTS, seed, count.unwrap_or(20_000), out)?,
+        "orders" => orders::orders(&[REQUESTS], seed, count.unwrap_or(20_000), out)?,
+        "reply-orders" => orders::orders(&[REPLIES], seed, count.unwrap_or(20_000), out)?,
         "writes" => writes::writes(seed, count.unwrap_or(200_000), out)?,
         _ => return Err(io::Error::other(format!("no corpus is named {name}"))),
     }

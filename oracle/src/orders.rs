@@ -1,5 +1,5 @@
-//! Demand 3 by running: judges the answers to the corpus `orders`. In it an accepted request stands before its three
-//! variants; that they are such is found here from the messages' own bytes, not taken from what made them.
+//! Demand 3 by running: judges the answers to the corpus `orders`. In it an accepted request or reply stands before its
+//! three variants; that they are such is found here from the messages' own bytes, not taken from what made them.
 
 use std::collections::BTreeMap;
 use std::fmt;
@@ -7,7 +7,7 @@ use std::io::{self, BufRead, Write};
 
 use crate::compare::{LEAST, SHOWN, hexadecimal, next_line, open, shortened};
 use crate::corpus::{CRATES_LIMIT, Cases, LARGEST_LIMIT};
-use crate::generate::{CRITICAL, is_known, kind, word};
+use crate::generate::{CRITICAL, Family, REPLIES, REQUESTS, is_known, kind, word};
 
 /// The messages of a group, in the corpus' order.
 const SORTS: [&str; 4] = [
@@ -17,8 +17,21 @@ const SORTS: [&str; 4] = [
     "variant with an unknown record, bit set",
 ];
 
-/// The originals that are asked for.
-const REQUESTS: [&str; 8] = [
+/// What is asked of the originals of a family.
+struct Originals {
+    family: Family,
+    /// Which there must be.
+    asked: &'static [&'static str],
+    /// Which of them a message's records are; none where they are those of no message of the family. It is not tested
+    /// there that it is accepted.
+    which: fn(&Walk) -> Option<Vec<&'static str>>,
+}
+
+static ORIGINALS: [Originals; 2] = [
+    Originals { family: REQUESTS, asked: &ORIGINAL_REQUESTS, which: original_request },
+    Originals { family: REPLIES, asked: &ORIGINAL_REPLIES, which: original_reply },
+];
+const ORIGINAL_REQUESTS: [&str; 8] = [
     "key-exchange without denied names",
     "key-exchange with one denied name",
     "key-exchange with two or more denied names",
@@ -27,6 +40,15 @@ const REQUESTS: [&str; 8] = [
     "support for protocols",
     "support for algorithms",
     "support for both",
+];
+const ORIGINAL_REPLIES: [&str; 7] = [
+    "reply with one cookie",
+    "reply with two to eight cookies",
+    "reply with more than eight cookies",
+    "reply with a server",
+    "reply with a port",
+    "reply with keep-alive",
+    "reply with none of the three",
 ];
 
 /// Messages and, in the same order, the lines that answer them.
@@ -38,9 +60,9 @@ pub fn judge(corpus: &str, crates: &str, probes: &str, failed: bool, out: &mut i
     let mut cases = Cases::new(open(corpus)?);
     let mut answers = [("crate", open(crates)?), ("probe", open(probes)?)];
     let mut counts = Counts::default();
-    while let Some(messages) = group(&mut cases)? {
+    while let Some((originals, messages)) = group(&mut cases)? {
         let first = counts.groups * SORTS.len() as u64;
-        let found = Group::of(&messages).map_err(|fault| {
+        let found = Group::of(originals, &messages).map_err(|fault| {
             io::Error::other(format!("the corpus is none of orders: case {first} or one of the next three: {fault}"))
         })?;
         counts.add(&found, &messages);
@@ -82,8 +104,8 @@ pub fn judge(corpus: &str, crates: &str, probes: &str, failed: bool, out: &mut i
 struct Counts {
     /// Originals, each with its variants.
     groups: u64,
-    /// Originals by their request.
-    requests: BTreeMap<&'static str, u64>,
+    /// Originals by what is asked for.
+    originals: BTreeMap<&'static str, u64>,
     /// Variants in an order that is not their original's.
     reordered: u64,
     /// Messages that the crate's own file would cut.
@@ -95,25 +117,29 @@ struct Counts {
 impl Counts {
     fn add(&mut self, found: &Group, messages: &Messages) {
         self.groups += 1;
-        *self.requests.entry(found.request).or_default() += 1;
+        for &original in &found.originals {
+            *self.originals.entry(original).or_default() += 1;
+        }
         self.reordered += u64::from(found.reordered);
         self.long += messages.iter().filter(|message| message.len() > CRATES_LIMIT).count();
     }
 
     /// Writes what was counted; false where something is wrong, too little or said to have failed.
     fn told(&self, failed: bool, out: &mut impl Write) -> io::Result<bool> {
-        let requests = REQUESTS.map(|request| (request, self.requests.get(request).copied().unwrap_or_default()));
+        let number = |original| (original, self.originals.get(original).copied().unwrap_or_default());
+        let occurs = |originals: &&Originals| originals.asked.iter().any(|asked| self.originals.contains_key(asked));
+        let originals = ORIGINALS.iter().filter(occurs).flat_map(|originals| originals.asked).copied().map(number);
         let variants = SORTS[1..].iter().map(|&sort| (sort, self.groups));
         let reordered = [("originals with an order that is not their own", self.reordered)];
         let mut good = self.wrong == 0 && !failed;
-        for (what, number) in requests.into_iter().chain(variants).chain(reordered) {
+        for (what, number) in originals.chain(variants).chain(reordered) {
             let few = number < LEAST;
             good &= !few;
             writeln!(out, "{what}: {number}{}", if few { ", too few" } else { "" })?;
         }
         writeln!(
             out,
-            "messages over {CRATES_LIMIT} bytes, read by the copy and not the crate's own file: {}",
+            "messages over {CRATES_LIMIT} bytes, read by a copy and not the crate's own file: {}",
             self.long
         )?;
         let messages = self.groups * (SORTS.len() as u64 - 1);
@@ -123,19 +149,24 @@ impl Counts {
     }
 }
 
-/// The next messages; none where the corpus is at its end.
-fn group(cases: &mut Cases<impl BufRead>) -> io::Result<Option<Messages>> {
+/// The next messages and what is asked of their original; none where the corpus is at its end.
+fn group(cases: &mut Cases<impl BufRead>) -> io::Result<Option<(&'static Originals, Messages)>> {
     let mut messages = Messages::default();
+    let mut originals = None;
     for (index, message) in messages.iter_mut().enumerate() {
         if !cases.advance()? {
             return if index == 0 { Ok(None) } else { Err(io::Error::other("the corpus ends between variants")) };
         }
-        if cases.op != b'Q' || cases.too_long {
-            return Err(io::Error::other("the corpus has a case that is no message of op Q"));
-        }
-        *message = std::mem::take(&mut cases.payload);
+        let of = |originals: &'static Originals| {
+            let message = originals.family.largest_message(cases.op, &cases.payload)?;
+            Some((originals, message.to_vec()))
+        };
+        let found = originals.map_or_else(|| ORIGINALS.iter().find_map(of), of).filter(|_| !cases.too_long);
+        let (first, bytes) = found.ok_or_else(|| io::Error::other("the corpus has a case of another op"))?;
+        originals = Some(first);
+        *message = bytes;
     }
-    Ok(Some(messages))
+    Ok(originals.map(|originals| (originals, messages)))
 }
 
 /// The next lines; none where there are too few.
@@ -151,8 +182,8 @@ fn group_of_lines(input: &mut impl BufRead) -> io::Result<Option<Messages>> {
 
 /// What the bytes of an original and its variants tell.
 struct Group {
-    /// One of `REQUESTS`.
-    request: &'static str,
+    /// Which of those asked for the original is.
+    originals: Vec<&'static str>,
     /// Whether the other order is not the original's own.
     reordered: bool,
     /// The place of the record put in with its bit set.
@@ -160,29 +191,30 @@ struct Group {
 }
 
 impl Group {
-    fn of(messages: &Messages) -> Result<Self, &'static str> {
+    fn of(originals: &Originals, messages: &Messages) -> Result<Self, &'static str> {
         let walk = |message| Walk::of(message).ok_or("a message has no end record within the limit");
         let [original, other] = [walk(&messages[0])?, walk(&messages[1])?];
         if original.sorted() != other.sorted() || original.end != other.end {
             return Err("the other order has other records");
         }
-        if !original.of_kind(13).eq(other.of_kind(13)) {
-            return Err("the denied names are in another order");
+        let entry = originals.family.entry;
+        if !original.of_kind(entry).eq(other.of_kind(entry)) {
+            return Err("the denied names or cookies are in another order");
         }
         if original.tail == other.tail {
             return Err("the other order has the same tail");
         }
         original.put_in(&walk(&messages[2])?, 0)?;
         let place = original.put_in(&walk(&messages[3])?, CRITICAL)?;
-        let request = original.request().ok_or("the original's records are those of no request")?;
-        Ok(Self { request, reordered: original.records != other.records, place })
+        let originals = (originals.which)(&original).ok_or("the original's records are those of no message")?;
+        Ok(Self { originals, reordered: original.records != other.records, place })
     }
 
     /// What a line must be, given those of all four messages and, for the probe, the crate's for the original.
     fn expected<'a>(&self, index: usize, lines: &'a Messages, crates_original: Option<&'a Vec<u8>>) -> Expected<'a> {
         match (index, crates_original) {
             (0, Some(line)) => Expected::Line(line),
-            (0, None) => Expected::Word(self.request.split(' ').next().expect("a word")),
+            (0, None) => Expected::Word(self.originals[0].split(' ').next().expect("a word")),
             (1 | 2, _) => Expected::Line(&lines[0]),
             _ => Expected::Refused(self.place),
         }
@@ -191,7 +223,7 @@ impl Group {
 
 /// What a line must be.
 enum Expected<'a> {
-    /// Beginning with this word: accepted, as that request.
+    /// Beginning with this word: accepted, as that request or reply.
     Word(&'a str),
     /// This one.
     Line(&'a [u8]),
@@ -266,19 +298,41 @@ impl<'a> Walk<'a> {
         Ok(place)
     }
 
-    /// The request that the records are; it is not tested here that it is accepted.
-    fn request(&self) -> Option<&'static str> {
-        let has = |kind| self.of_kind(kind).next().is_some();
-        match (has(9), has(10), has(12)) {
-            (true, true, _) => Some(REQUESTS[7]),
-            (false, true, _) => Some(REQUESTS[6]),
-            (true, false, _) => Some(REQUESTS[5]),
-            (false, false, true) => match self.of_kind(4).next()?[4..] {
-                [0, 15] => Some(REQUESTS[3]),
-                [0, 17] => Some(REQUESTS[4]),
-                _ => None,
-            },
-            _ => Some(REQUESTS[self.of_kind(13).count().min(2)]),
+    fn has(&self, kind: u16) -> bool {
+        self.of_kind(kind).next().is_some()
+    }
+}
+
+fn original_request(walk: &Walk) -> Option<Vec<&'static str>> {
+    let which = match (walk.has(9), walk.has(10), walk.has(12)) {
+        (true, true, _) => 7,
+        (false, true, _) => 6,
+        (true, false, _) => 5,
+        (false, false, true) => match walk.of_kind(4).next()?[4..] {
+            [0, 15] => 3,
+            [0, 17] => 4,
+            _ => return None,
+        },
+        _ => walk.of_kind(13).count().min(2),
+    };
+    Some(vec![ORIGINAL_REQUESTS[which]])
+}
+
+fn original_reply(walk: &Walk) -> Option<Vec<&'static str>> {
+    let cookies = match walk.of_kind(5).count() {
+        0 => return None,
+        1 => 0,
+        2..=8 => 1,
+        _ => 2,
+    };
+    let mut which = vec![cookies];
+    for (kind, option) in [(6, 3), (7, 4), (8, 5)] {
+        if walk.has(kind) {
+            which.push(option);
         }
     }
+    if which.len() == 1 {
+        which.push(6);
+    }
+    Some(which.into_iter().map(|which| ORIGINAL_REPLIES[which]).collect())
 }

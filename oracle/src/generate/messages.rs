@@ -43,6 +43,14 @@ impl Family {
             None => put(out, self.limited, &limited(LARGEST_LIMIT, CELLS, message)),
         }
     }
+
+    /// The message of such a case; none for another.
+    pub fn largest_message<'a>(&self, op: u8, payload: &'a [u8]) -> Option<&'a [u8]> {
+        match self.largest {
+            Some(largest) => (op == largest).then_some(payload),
+            None => payload.strip_prefix(&limited(LARGEST_LIMIT, CELLS, &[])[..]).filter(|_| op == self.limited),
+        }
+    }
 }
 
 /// The corpus of random messages.

@@ -8,11 +8,14 @@ use super::{CRITICAL, UNKNOWN, kind, record};
 use crate::corpus::{LARGEST_LIMIT, LONGEST};
 use crate::random::Random;
 
-/// An original and three variants for each of `count`; oracle/orders judges the answers by that order of the cases.
-pub fn orders(family: &Family, seed: u64, count: u64, out: &mut impl Write) -> io::Result<()> {
+/// An original and three variants for each of `count` of a family; oracle/orders judges the answers by that order of the
+/// cases.
+pub fn orders(families: &[Family], seed: u64, count: u64, out: &mut impl Write) -> io::Result<()> {
     let mut random = Random::new(seed, "orders");
-    for _ in 0..count {
-        one(family, &mut random, out)?;
+    for family in families {
+        for _ in 0..count {
+            one(family, &mut random, out)?;
+        }
     }
     Ok(())
 }
