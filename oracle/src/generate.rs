@@ -46,8 +46,7 @@ pub fn corpus(name: &str, seed: u64, count: Option<u64>, out: &mut impl Write) -
             replies::long_names(seed, out)?;
             messages::messages(&REPLIES, seed, count.unwrap_or(2_300_000), out)?;
         }
-        "orders" => orders::orders(&[REQUESTS], seed, count.unwrap_or(20_000), out)?,
-        "reply-orders" => orders::orders(&[REPLIES], seed, count.unwrap_or(20_000), out)?,
+        "orders" => orders::orders(&[REQUESTS, REPLIES], seed, count.unwrap_or(20_000), out)?,
         "writes" => writes::writes(seed, count.unwrap_or(200_000), out)?,
         _ => return Err(io::Error::other(format!("no corpus is named {name}"))),
     }

@@ -127,8 +127,7 @@ impl Counts {
     /// Writes what was counted; false where something is wrong, too little or said to have failed.
     fn told(&self, failed: bool, out: &mut impl Write) -> io::Result<bool> {
         let number = |original| (original, self.originals.get(original).copied().unwrap_or_default());
-        let occurs = |originals: &&Originals| originals.asked.iter().any(|asked| self.originals.contains_key(asked));
-        let originals = ORIGINALS.iter().filter(occurs).flat_map(|originals| originals.asked).copied().map(number);
+        let originals = ORIGINALS.iter().flat_map(|originals| originals.asked).copied().map(number);
         let variants = SORTS[1..].iter().map(|&sort| (sort, self.groups));
         let reordered = [("originals with an order that is not their own", self.reordered)];
         let mut good = self.wrong == 0 && !failed;
