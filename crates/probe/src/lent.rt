@@ -1,5 +1,6 @@
 // What is lent to a call: filled before it, and looked at afterwards.
 use super::text;
+use nts::Refusal;
 
 const BYTE: u8 = 0xA5;
 
@@ -49,4 +50,54 @@ pub(super) fn put_changed(out: &mut [u8], at: usize, unchanged: bool) -> usize {
         return at;
     }
     text::put_text(out, at, b" CHANGED")
+}
+
+// The first cell behind those of so many entries.
+fn behind(entries: usize, cells: usize) -> usize {
+    if entries <= cells / 2 {
+        return 2 * entries;
+    }
+    cells
+}
+
+// ` CHANGED` where a cell behind those of so many entries is not as it was lent.
+pub(super) fn put_changed_behind(
+    out: &mut [u8],
+    at: usize,
+    table: &[u16],
+    entries: usize,
+) -> usize {
+    put_changed(out, at, are_filled(table, behind(entries, table.len())))
+}
+
+// The bodies that the table points to.
+fn put_bodies(out: &mut [u8], at: usize, message: &[u8], table: &[u16], count: usize) -> usize {
+    let mut to = at;
+    let mut i = 0;
+    while i < count {
+        to = text::put_bytes(out, to, places::entry(message, table, i));
+        i += 1;
+    }
+    to
+}
+
+// A word, how many entries an accepted message put into the table, and each; ` CHANGED` where another cell is not as it was lent.
+pub(super) fn put_entries(
+    out: &mut [u8],
+    at: usize,
+    word: &[u8],
+    message: &[u8],
+    table: &[u16],
+    count: usize,
+) -> usize {
+    let number = text::put_number(out, at, word, count as u64);
+    let blank = text::put(out, number, b' ');
+    let to = put_bodies(out, blank, message, table, count);
+    put_changed_behind(out, to, table, count)
+}
+
+// The refusal of a message; ` CHANGED` where a cell is not as it was lent.
+pub(super) fn put_refused(out: &mut [u8], at: usize, table: &[u16], refusal: Refusal) -> usize {
+    let to = text::put_refusal_at(out, at, refusal);
+    put_changed_behind(out, to, table, 0)
 }

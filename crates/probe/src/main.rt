@@ -1,12 +1,15 @@
 // Answers a corpus: cases are read from standard input until it ends, and each gets a line.
-ghost use Prim.Native.Nat.{_<_};
-
 mod case;
 mod lent;
+mod messages;
 mod reading;
+mod replies;
 mod requests;
 mod text;
 mod writing;
+
+use messages::Sort;
+ghost use Prim.Native.Nat.{_<_};
 
 struct Went {
     on: bool,
@@ -31,9 +34,11 @@ fn answer(
         b'W' => writing::in_room(case, dst, out, at),
         b'X' => writing::part_in(case, dst, out, at),
         b'z' => writing::length_of(case, out, at),
-        b'q' => requests::under(4096, case, table, out, at),
-        b'Q' => requests::under(65535, case, table, out, at),
-        b'L' => requests::limited(case, table, out, at),
+        b'q' => messages::under(Sort::Request, 4096, case, table, out, at),
+        b'Q' => messages::under(Sort::Request, 65535, case, table, out, at),
+        b'L' => messages::limited(Sort::Request, case, table, out, at),
+        b'y' => messages::under(Sort::Reply, 4096, case, table, out, at),
+        b'l' => messages::limited(Sort::Reply, case, table, out, at),
         _ => text::bad_case(out, at),
     }
 }

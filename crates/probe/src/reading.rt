@@ -138,8 +138,7 @@ fn put_record(out: &mut [u8], at: usize, m: &[u8], item: NtsRecord) -> usize {
 }
 
 fn put_read(out: &mut [u8], at: usize, message: &[u8], x: Reading) -> usize {
-    let word = text::put_text(out, at, b"ok next ");
-    let place = text::put_decimal(out, word, x.next.at as u64);
+    let place = text::put_number(out, at, b"ok next ", x.next.at as u64);
     let to = text::put(out, place, b' ');
     let item = x.item;
     put_record(out, to, message, item)

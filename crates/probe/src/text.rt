@@ -2,6 +2,7 @@
 use nts::Code;
 use nts::NtsError;
 use nts::Refusal;
+use record::Part;
 
 pub(super) fn put(out: &mut [u8], at: usize, b: u8) -> usize {
     if at < out.len() {
@@ -49,28 +50,50 @@ pub(super) fn put_bytes(out: &mut [u8], at: usize, bytes: &[u8]) -> usize {
     put(out, to, b'>')
 }
 
+// A word, and a number behind it.
+pub(super) fn put_number(out: &mut [u8], at: usize, word: &[u8], n: u64) -> usize {
+    let to = put_text(out, at, word);
+    put_decimal(out, to, n)
+}
+
+// A word, and 1 or 0 behind it.
+pub(super) fn put_flag(out: &mut [u8], at: usize, word: &[u8], flag: bool) -> usize {
+    let to = put_text(out, at, word);
+    if flag {
+        return put(out, to, b'1');
+    }
+    put(out, to, b'0')
+}
+
+// A word, and a part of the message behind it.
+pub(super) fn put_part(
+    out: &mut [u8],
+    at: usize,
+    word: &[u8],
+    message: &[u8],
+    part: Part,
+) -> usize {
+    let to = put_text(out, at, word);
+    put_bytes(out, to, part.of(message))
+}
+
 pub(super) fn bad_case(out: &mut [u8], at: usize) -> usize {
     put_text(out, at, b"bad case")
 }
 
-// "refused N", and " code C" where a code is returned.
+// "refused N".
 pub(super) fn put_refusal(out: &mut [u8], at: usize, error: NtsError) -> usize {
-    let word = put_text(out, at, b"refused ");
-    put_decimal(out, word, error.number() as u64)
+    put_number(out, at, b"refused ", error.number() as u64)
 }
 
 // "refused N at P", and " code C" where a code is returned.
 pub(super) fn put_refusal_at(out: &mut [u8], at: usize, refusal: Refusal) -> usize {
     let error = refusal.error;
     let number = put_refusal(out, at, error);
-    let word = put_text(out, number, b" at ");
-    let place = put_decimal(out, word, refusal.place as u64);
+    let place = put_number(out, number, b" at ", refusal.place as u64);
     let code = error.code();
     match code {
         Code::None => place,
-        Code::Number(n) => {
-            let to = put_text(out, place, b" code ");
-            put_decimal(out, to, n as u64)
-        }
+        Code::Number(n) => put_number(out, place, b" code ", n as u64),
     }
 }

@@ -184,10 +184,7 @@ pub(super) fn length_of(case: &[u8], out: &mut [u8], at: usize) -> usize {
         Given::Item(item) => {
             let answer = item.length(case);
             match answer {
-                ByteCount::Bytes(n) => {
-                    let word = text::put_text(out, at, b"length ");
-                    text::put_decimal(out, word, n as u64)
-                }
+                ByteCount::Bytes(n) => text::put_number(out, at, b"length ", n as u64),
                 ByteCount::Refused(error) => text::put_refusal(out, at, error),
             }
         }

@@ -1,11 +1,11 @@
--- `probe::requests::put_names` ends: each turn leaves fewer names.
+-- `probe::lent::put_bodies` ends: each turn leaves fewer bodies.
 -- Assumes nothing.
 use mathlib.Core.Path.{_≡_}
 use Prim.Native.Nat.{_≤_, _-_}
 use lib.ListN.{length}
 use borrow.Author.Needs.{needs}
-use Rattle.probe.proofs.requests.put_names.Statement.{statement}
-use Rattle.probe.proofs.requests.put_names.Tie as tie
+use Rattle.probe.proofs.lent.put_bodies.Statement.{statement}
+use Rattle.probe.proofs.lent.put_bodies.Tie as tie
 
 abbrev Inv-loop : tie.InvT-loop
 Inv-loop out₀ at message table count to₀ i₀ out to i = (i ≤ count) × (length out ≡ length out₀)
@@ -16,8 +16,8 @@ abbrev μ-loop : tie.MeasureT-loop
 loop-holds : tie.Need-loop-holds Inv-loop μ-loop
 loop-holds c = search needs
 
-denied-name-requires : tie.Need-denied-name-requires Inv-loop μ-loop
-denied-name-requires c κs = search needs
+entry-requires : tie.Need-entry-requires Inv-loop μ-loop
+entry-requires c κs = search needs
 
 put-bytes-requires : tie.Need-put-bytes-requires Inv-loop μ-loop
 put-bytes-requires c κs = search needs
@@ -37,14 +37,14 @@ same-length c = search needs
 returns : tie.Need-returns Inv-loop μ-loop
 returns c = search needs
 
-pub put-names-spec : {M : Type 1} → statement M
-put-names-spec =
+pub put-bodies-spec : {M : Type 1} → statement M
+put-bodies-spec =
     tie.close
     (tie.spec
     Inv-loop
     μ-loop
     loop-holds
-    denied-name-requires
+    entry-requires
     put-bytes-requires
     add-i
     loop-less

@@ -1,0 +1,47 @@
+// The ops of whole messages: q, Q and L for a request, y and l for a reply. Each lends the table in the same way.
+use super::case;
+use super::lent;
+use super::replies;
+use super::requests;
+use super::text;
+
+// Which reader a message is for.
+pub enum Sort {
+    Request,
+    Reply,
+}
+
+// Ops q, Q and y: a message, with this limit and all of the table.
+pub(super) fn under(
+    sort: Sort,
+    limit: u16,
+    message: &[u8],
+    table: &mut [u16],
+    out: &mut [u8],
+    at: usize,
+) -> usize {
+    lent::fill_cells(table);
+    match sort {
+        Sort::Request => requests::put_answer(message, limit, table, out, at),
+        Sort::Reply => replies::put_answer(message, limit, table, out, at),
+    }
+}
+
+// Ops L and l: a limit, a number of cells, and the message.
+pub(super) fn limited(
+    sort: Sort,
+    case: &[u8],
+    table: &mut [u16],
+    out: &mut [u8],
+    at: usize,
+) -> usize {
+    if case.len() < 4 {
+        return text::bad_case(out, at);
+    }
+    let limit = case::number16(case, 0);
+    let cells = case::number16(case, 2) as usize;
+    if table.len() < cells {
+        return text::bad_case(out, at);
+    }
+    under(sort, limit, &case[4..], &mut table[0..cells], out, at)
+}

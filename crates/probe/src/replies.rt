@@ -1,0 +1,53 @@
+// The answer to a reply: ops y and l.
+use super::lent;
+use super::text;
+use reply::Answer;
+use reply::KeyExchangeResponse;
+use reply::Port;
+use reply::Server;
+
+fn put_server(out: &mut [u8], at: usize, message: &[u8], server: Server) -> usize {
+    match server {
+        Server::Sent(name) => text::put_part(out, at, b" server ", message, name),
+        Server::NotSent => text::put_text(out, at, b" server -"),
+    }
+}
+
+fn put_port(out: &mut [u8], at: usize, port: Port) -> usize {
+    match port {
+        Port::Sent(n) => text::put_number(out, at, b" port ", n as u64),
+        Port::NotSent => text::put_text(out, at, b" port -"),
+    }
+}
+
+fn put_reply(
+    out: &mut [u8],
+    at: usize,
+    message: &[u8],
+    table: &[u16],
+    reply: KeyExchangeResponse,
+) -> usize {
+    let name = reply.server;
+    let number = reply.port;
+    let protocol = text::put_number(out, at, b"reply protocol ", reply.protocol.0 as u64);
+    let algorithm = text::put_number(out, protocol, b" algorithm ", reply.algorithm.0 as u64);
+    let server = put_server(out, algorithm, message, name);
+    let port = put_port(out, server, number);
+    let flag = text::put_flag(out, port, b" keep-alive ", reply.keep_alive);
+    lent::put_entries(out, flag, b" cookies ", message, table, reply.cookies)
+}
+
+// A message under a limit, with a table that was filled for the call.
+pub(super) fn put_answer(
+    message: &[u8],
+    limit: u16,
+    table: &mut [u16],
+    out: &mut [u8],
+    at: usize,
+) -> usize {
+    let answer = KeyExchangeResponse::parse(message, limit, table);
+    match answer {
+        Answer::Accepted(reply) => put_reply(out, at, message, table, reply),
+        Answer::Refused(refusal) => lent::put_refused(out, at, table, refusal),
+    }
+}
