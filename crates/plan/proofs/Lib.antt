@@ -1,0 +1,6 @@
+pub mod Walking
+pub mod Fields
+pub mod Counting
+pub mod Appending
+pub mod Apart
+pub mod Same
