@@ -4,3 +4,4 @@ pub mod Counting
 pub mod Appending
 pub mod Apart
 pub mod Same
+pub mod Standing
