@@ -35,7 +35,7 @@ use Rattle.record.proofs.Writing.{sound, sound-record, length-body, jus
 -- ---- a body without a fault
 
 -- what a body of n bytes must be, by what it holds
-abbrev Good : Shape → ℕ → List ℕ → Type 0
+abbrev pub Good : Shape → ℕ → List ℕ → Type 0
 Good shape.Skipped n b = Unit {0}
 Good shape.Numbers n b = n % 2 ≡ 0
 Good shape.Number n b = n ≡ 2
@@ -49,7 +49,7 @@ whole : (n : ℕ) (b : List ℕ) → length b ≡ n → short n (length b) ≡ 0
 unfolding short
 whole n b e = rw (le-ltb (length b) n (omega arith))
 
-good-faultless : (l : Shape) (n : ℕ) (b : List ℕ) → length b ≡ n → Good l n b → faultOf l n b ≡ 0
+pub good-faultless : (l : Shape) (n : ℕ) (b : List ℕ) → length b ≡ n → Good l n b → faultOf l n b ≡ 0
 unfolding faultOf uneven notNumber notHalves notName notUtf8 firstOf
 good-faultless shape.Skipped n b e g = whole n b e
 good-faultless shape.Numbers n b e g = rw (eq-eqb (n % 2) 0 g) (whole n b e)
@@ -74,12 +74,12 @@ unknown-shape k e =
 
 -- ---- the header comes back
 
-word-kind : (k : ℕ) (bit : Bool) → k ≤ 32767 → kindOf (wordOf k bit) ≡ k
+pub word-kind : (k : ℕ) (bit : Bool) → k ≤ 32767 → kindOf (wordOf k bit) ≡ k
 unfolding kindOf wordOf
 word-kind k true h = omega arith
 word-kind k false h = omega arith
 
-word-bit : (k : ℕ) (bit : Bool) → k ≤ 32767 → criticalOf (wordOf k bit) ≡ bit
+pub word-bit : (k : ℕ) (bit : Bool) → k ≤ 32767 → criticalOf (wordOf k bit) ≡ bit
 unfolding criticalOf wordOf
 word-bit k true h = le-leb 0x8000 (k + 0x8000) (omega arith)
 word-bit k false h = lt-leb 0x8000 k (omega arith)

@@ -99,6 +99,14 @@ module _ (R : Reader) where
     unfolding step judge meet
     step-refused n b u f a = rw (f, a)
 
+  -- a record that is refused by itself, after records that the walk passes
+  pub read-refused : (D : Judge) (n : ℕ) (cs : List (List ℕ)) (u t : List ℕ) (k : ℕ) (b : Beside) → Each (Inner R) cs → Passed R (seenIn []) cs → Whole u
+      → faultIn R u ≡ 0 → actIn R u ≡ refuses k b → length (flat cs) + length u ≤ n
+      → readBy R D (message cs u t) n ≡ refused (record { number = k; beside = b; place = length (flat cs) })
+  unfolding readBy finish
+  read-refused D n cs u t k b i p w z a f =
+      rw (walk-stops n cs u t _ i p w f (step-refused (sightingsIn R 0 cs) (length (flat cs)) k b u z a))
+
 -- ---- a message that is accepted
 
 pub accepted-reached : (R : Reader) (D : Judge) (m : List ℕ) (n : ℕ) (q : D .Q Sighting) → readBy R D m n ≡ accepted q
@@ -128,7 +136,7 @@ accepted-parts R D m n q h = record {
 
 module _ (R : Reader) (D : Judge) (L : Lawful R D) where
   -- what is decided from the records alone
-  pub shown : List (List ℕ) → Verdict (D .Q) (List ℕ)
+  unfoldable pub shown : List (List ℕ) → Verdict (D .Q) (List ℕ)
   shown cs = D .decide (λ (b : List ℕ). b) (λ k. bodiesOf R k cs)
 
   -- what is asked of records and an end record, to be accepted under a limit and to show x
@@ -157,6 +165,15 @@ module _ (R : Reader) (D : Judge) (L : Lawful R D) where
     read-verdict p f =
         let s = step-last R (sightingsIn R 0 cs) (length (flat cs)) e last in
         rw (walk-stops R n cs e t _ inner p (last .0) f s)
+
+    -- refused after the end record, at its place
+    pub decided-no : (k : ℕ) (b : Beside) → Passed R (seenIn []) cs → length (flat cs) + length e ≤ n → shown cs ≡ no k b
+        → readBy R D m n ≡ refused (record { number = k; beside = b; place = length (flat cs) })
+    decided-no k b p f s = read-verdict p f ∙ ap (placed (length (flat cs))) (go verdict (verdict-shown ∙ s))
+      where
+        go : (v : Verdict (D .Q) Sighting) → mapVerdict D (bodyIn m) v ≡ no k b → v ≡ no k b
+        go (no j c) h = cc
+        go (yes q) h = cc
 
     pub accepted-good : (q : D .Q Sighting) → readBy R D m n ≡ accepted q → Good n cs e (contents D m q)
     accepted-good q h =
@@ -214,8 +231,7 @@ module _ (R : Reader) (D : Judge) (L : Lawful R D) where
 
       pub insert-refused : (k : ℕ) (b : Beside) (t : List ℕ) → actIn R u ≡ refuses k b → length (flat xs) + length u ≤ n
           → readBy R D (message xs u t) n ≡ refused (record { number = k; beside = b; place = length (flat xs) })
-      unfolding readBy finish
       insert-refused k b t a f =
           let i = each-front (Inner R) xs ys (g .inner) in
           let p = passed-front R (seenIn []) xs ys (g .passed) in
-          rw (walk-stops R n xs u t _ i p whole f (step-refused R (sightingsIn R 0 xs) (length (flat xs)) k b u faultless a))
+          read-refused R D n xs u t k b i p whole faultless a f

@@ -11,3 +11,4 @@ pub mod Loop
 pub mod Meeting
 pub mod Answered
 pub mod Verdicts
+pub mod Written
