@@ -5,3 +5,4 @@ pub mod Appending
 pub mod Apart
 pub mod Same
 pub mod Standing
+pub mod Planned

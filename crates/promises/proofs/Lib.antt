@@ -6,3 +6,4 @@ pub mod Examples
 pub mod HandingReply
 pub mod Demand3Reply
 pub mod ExamplesReply
+pub mod Halves

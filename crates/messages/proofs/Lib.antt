@@ -1,0 +1,5 @@
+pub mod Putting
+pub mod Judging
+pub mod Cleared
+pub mod Records
+pub mod Same
