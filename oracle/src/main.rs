@@ -4,6 +4,7 @@ mod compare;
 mod corpus;
 mod generate;
 mod orders;
+mod outcomes;
 mod packet;
 mod random;
 mod samples;
