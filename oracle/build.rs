@@ -1,15 +1,32 @@
 //! Makes the stand-in for the crate's module `nts`: the needed items of its mod.rs, cut out by line number, and its
 //! files record.rs and messages.rs, which are compiled where they stand. Beside them two copies of messages.rs: one in
-//! which one constant is raised, and one in which, besides, the reader of replies is document 01's by four edits.
+//! which one constant is raised, and one in which, besides, the reader of replies is document 01's by four edits. The lines
+//! of mod.rs with which the server chooses become the bodies of two functions: as they stand, and document 01's by one edit.
 
 use std::{env, fs, path::PathBuf};
 
-/// Line ranges of mod.rs, counted from 1, with the text of the first and the last line of each.
-const ITEMS: [(usize, usize, &str, &str); 3] = [
+/// A line range of mod.rs, counted from 1, with the text of its first and its last line.
+type Range = (usize, usize, &'static str, &'static str);
+
+const ITEMS: [Range; 3] = [
     (27, 27, "const DEFAULT_NUMBER_OF_COOKIES: usize = 8;", "const DEFAULT_NUMBER_OF_COOKIES: usize = 8;"),
     (29, 82, "/// From https://www.iana.org/assignments/aead-parameters/aead-parameters.xhtml", "}"),
     (153, 305, "#[derive(Debug, Clone, Copy, PartialEq, Eq, Hash)]", "impl std::error::Error for NtsError {}"),
 ];
+
+/// The lines with which the crate's server chooses, up to where it has chosen.
+const CHOICE: Range = (665, 688, "                let protocol = protocols", "                    }");
+
+/// What makes that choice document 01's: the crate asks no list of the server's own for the algorithm.
+const BY_BOTH_LISTS: Edit =
+    (".find(|v| !matches!(v, AeadAlgorithm::Unknown(_)))", ".find(|v| self.algorithms.contains(v))");
+
+/// What those lines find in `self`.
+const SERVERS_LISTS: &str = "struct ServersLists {
+    protocols: Vec<NextProtocol>,
+    algorithms: Vec<AeadAlgorithm>,
+}
+";
 
 /// The limit of messages.rs, and what the copies have in its place.
 const RAISED_LIMIT: Edit = ("const MAX_MESSAGE_SIZE: u64 = 4096;", "const MAX_MESSAGE_SIZE: u64 = 65535;");
@@ -58,14 +75,13 @@ fn main() {
     let text = fs::read_to_string(&module).expect("the crate's nts/mod.rs");
     let lines: Vec<&str> = text.lines().collect();
     let mut out = String::new();
-    for (first, last, first_text, last_text) in ITEMS {
-        assert_eq!(lines[first - 1], first_text, "nts/mod.rs, line {first}");
-        assert_eq!(lines[last - 1], last_text, "nts/mod.rs, line {last}");
-        for line in &lines[first - 1..last] {
-            out.push_str(line);
-            out.push('\n');
-        }
+    for range in ITEMS {
+        out.push_str(&cut_out(&lines, range));
     }
+    let choice = cut_out(&lines, CHOICE);
+    out.push_str(SERVERS_LISTS);
+    out.push_str(&choosing("chosen_as_it_stands", &choice));
+    out.push_str(&choosing("chosen_by_both_lists", &edited(&choice, BY_BOTH_LISTS)));
     for name in ["record", "messages"] {
         let file = nts.join(format!("{name}.rs"));
         assert!(file.is_file(), "{} is missing", file.display());
@@ -85,6 +101,34 @@ fn main() {
     fs::write(folder.join("nts.rs"), out).expect("writing nts.rs");
 }
 
+/// The lines of a range.
+fn cut_out(lines: &[&str], (first, last, first_text, last_text): Range) -> String {
+    assert_eq!(lines[first - 1], first_text, "nts/mod.rs, line {first}");
+    assert_eq!(lines[last - 1], last_text, "nts/mod.rs, line {last}");
+    lines[first - 1..last].iter().flat_map(|line| [line, "\n"]).collect()
+}
+
+/// A function that chooses by those lines, and then hands out what the server would go on with.
+fn choosing(name: &str, lines: &str) -> String {
+    format!(
+        "impl ServersLists {{
+    async fn {name}(
+        &self,
+        protocols: &[NextProtocol],
+        algorithms: &[AeadAlgorithm],
+        mut io: &mut Vec<u8>,
+    ) -> Result<(NextProtocol, AeadAlgorithm), NtsError> {{
+        use messages::NoOverlapResponse;
+
+{lines}                    (Some(protocol), Some(algorithm)) => Ok((protocol, algorithm)),
+                }};
+                result
+    }}
+}}
+"
+    )
+}
+
 /// A text of messages.rs in which the reader of replies is document 01's, and nothing else is changed.
 fn with_document_01s_reader(text: &str) -> String {
     let [first, last] = REPLY_READER;
@@ -96,6 +140,6 @@ fn with_document_01s_reader(text: &str) -> String {
 }
 
 fn edited(text: &str, (from, to): Edit) -> String {
-    assert_eq!(text.matches(from).count(), 1, "nts/messages.rs: {from}");
+    assert_eq!(text.matches(from).count(), 1, "the crate's text: {from}");
     text.replace(from, to)
 }

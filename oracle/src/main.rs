@@ -6,6 +6,7 @@ mod generate;
 mod orders;
 mod outcomes;
 mod packet;
+mod payload;
 mod random;
 mod samples;
 mod tls_utils;
@@ -18,11 +19,15 @@ mod nts {
     include!(concat!(env!("OUT_DIR"), "/nts.rs"));
 
     pub mod answer;
-    mod lines;
+    pub mod choosing;
+    pub mod lines;
+    pub mod plans;
     mod poll;
     mod reading;
     pub mod replies;
     mod requests;
+    pub mod sending;
+    pub mod trays;
     mod whole;
     mod writing;
 }

@@ -2,16 +2,36 @@
 
 use std::collections::BTreeMap;
 
-use crate::nts::replies::{self, AUTHENTICATION, DISAGREES, EMPTY_LIST, MANY_COOKIES, NO_COOKIE};
+use crate::nts::choosing::{self, NOT_THE_CRATES, NOT_THE_SERVERS, ODD_ALGORITHMS, ODD_PROTOCOLS};
+use crate::nts::lines::DISAGREES;
+use crate::nts::plans::{self, NOT_PLANNED, NOT_UTF8, OTHER_LENGTH};
+use crate::nts::replies::{self, AUTHENTICATION, EMPTY_LIST, MANY_COOKIES, NO_COOKIE};
+use crate::nts::sending;
+use crate::nts::trays::{self, BEYOND, CUT, MANY_FIELDS, OTHER_TAG};
 
 /// The outcomes that can occur, by what the ops do.
-pub const FAMILIES: [(&str, &[&[&str]]); 6] = [
+pub const FAMILIES: [(&str, &[&[&str]]); 21] = [
     ("read", &[&KINDS, &["refused 1", "refused 2"]]),
     ("write", &[&KINDS, &["a part", "refused 8", "refused 10"], &NO_RECORD]),
     ("measure", &[&KINDS, &["refused 8", "refused 9"]]),
     ("request", &[&REQUESTS]),
     ("reply", &[&REPLIES, &READ_BY]),
     ("reply by the copy, for", &[&[EMPTY_LIST, AUTHENTICATION, NO_COOKIE, MANY_COOKIES]]),
+    ("choice", &[&["chosen", "refused 13", "refused 14"], &CHOSEN_BY]),
+    ("choice refused 9 for", &[&[ODD_PROTOCOLS, ODD_ALGORITHMS]]),
+    ("choice by the copy, for", &[&[NOT_THE_SERVERS, NOT_THE_CRATES]]),
+    ("no-protocol", &[&WRITTEN]),
+    ("no-algorithm", &[&WRITTEN]),
+    ("error", &[&WRITTEN]),
+    ("support", &[&SUPPORTS]),
+    ("append", &[&["used", "refused 7", "refused 8", "refused 10"]]),
+    ("append refused 9 for", &[&BROKEN, &[MANY_FIELDS]]),
+    ("plan by calls", &[&PLANS, &["append refused 7", "append refused 10"]]),
+    ("plan by calls refused 9 for", &[&NO_NAME]),
+    ("plan by hand", &[&PLANS]),
+    ("plan by hand refused 9 for", &[&BROKEN, &[MANY_FIELDS], &NO_NAME]),
+    ("written request", &[&WRITTEN, &["wrote with names", "wrote with more than eight names", "refused 8"]]),
+    ("written request refused 9 for", &[&BROKEN, &[NOT_UTF8]]),
 ];
 const KINDS: [&str; 16] =
     ["0", "1", "2", "3", "4", "5", "6", "7", "8", "9", "10", "12", "13", "14", "unknown c", "unknown -"];
@@ -51,6 +71,39 @@ const REPLIES: [&str; 18] = [
 /// Whose line a reply's is: that of the crate's reader as it stands, which the edited copy's is then as well, or the edited
 /// copy's alone.
 const READ_BY: [&str; 2] = ["as the crate reads it", "by the copy with 01's four edits"];
+/// Whose choice it is, likewise.
+const CHOSEN_BY: [&str; 2] = ["as the crate chooses", "by the copy with one edit"];
+/// A message of which nothing can be wrong but the room.
+const WRITTEN: [&str; 2] = ["wrote", "refused 10"];
+const SUPPORTS: [&str; 12] = [
+    "wrote",
+    "wrote with algorithms",
+    "wrote with protocols",
+    "wrote with algorithms, protocols",
+    "wrote with keep-alive",
+    "wrote with algorithms, keep-alive",
+    "wrote with protocols, keep-alive",
+    "wrote with algorithms, protocols, keep-alive",
+    "refused 8",
+    "refused 9 for algorithms that are asked for",
+    "refused 9 for algorithms that are not asked for",
+    "refused 10",
+];
+const PLANS: [&str; 10] = [
+    "wrote",
+    "wrote with port",
+    "wrote with server",
+    "wrote with port, server",
+    "wrote with keep-alive",
+    "wrote with port, keep-alive",
+    "wrote with server, keep-alive",
+    "wrote with port, server, keep-alive",
+    "refused 10",
+    "refused 15",
+];
+/// Refusal 9 for a tray of either tag, and for the name that is lent with a plan.
+const BROKEN: [&str; 3] = [BEYOND, CUT, OTHER_TAG];
+const NO_NAME: [&str; 3] = [NOT_PLANNED, OTHER_LENGTH, NOT_UTF8];
 /// Refusal 9 of a writer, by what it was to write.
 const NO_RECORD: [&str; 11] = [
     "refused 9 for 1",
@@ -66,16 +119,20 @@ const NO_RECORD: [&str; 11] = [
     "refused 9 for a part",
 ];
 
-/// Adds a case to its outcome's count and, if it is a reply's, to those of what it was compared with.
+/// Adds a case to its outcome's count and, if it is a reply's or a choice, to those of what it was compared with.
 pub fn count(counts: &mut BTreeMap<String, u64>, op: u8, payload: &[u8], line: &[u8]) {
     let outcome = outcome(op, payload, line);
-    let is_reply = outcome.starts_with("reply ");
+    let (family, by, difference) = match op {
+        b'g' => ("choice", CHOSEN_BY, choosing::difference_of(payload)),
+        _ => ("reply", READ_BY, replies::difference_of(op, payload)),
+    };
+    let difference = difference.filter(|_| outcome.split(' ').next() == Some(family));
     let mut add = |outcome| *counts.entry(outcome).or_default() += 1;
     add(outcome);
-    if is_reply && let Some(difference) = replies::difference_of(op, payload) {
-        add(format!("reply {}", READ_BY[usize::from(difference.is_some())]));
+    if let Some(difference) = difference {
+        add(format!("{family} {}", by[usize::from(difference.is_some())]));
         if let Some(difference) = difference {
-            add(format!("reply by the copy, for {difference}"));
+            add(format!("{family} by the copy, for {difference}"));
         }
     }
 }
@@ -90,6 +147,9 @@ fn outcome(op: u8, payload: &[u8], line: &[u8]) -> String {
         return format!("reply accepted{}", options(line));
     }
     let line = String::from_utf8_lossy(&line[..line.len().min(64)]);
+    if line.starts_with(DISAGREES) {
+        return DISAGREES.to_owned();
+    }
     let words: Vec<&str> = line.splitn(7, ' ').collect();
     match (op, &words[..]) {
         (b'r' | b'R', ["ok", "next", _, "unknown", _, bit, ..]) => format!("read unknown {bit}"),
@@ -103,16 +163,69 @@ fn outcome(op: u8, payload: &[u8], line: &[u8]) -> String {
         (b'q' | b'Q' | b'L', ["refused", number, ..]) => format!("request refused {number}"),
         (b'q' | b'Q' | b'L', [kind @ ("fixed-key" | "support"), ..]) => format!("request {kind}"),
         (b'y' | b'l', ["refused", number, ..]) => format!("reply refused {number}"),
-        (b'y' | b'l', _) if line.starts_with(DISAGREES) => format!("reply {DISAGREES}"),
+        (b'g', ["chosen", ..]) => "choice chosen".to_owned(),
+        (b'g', words) => refused("choice", words, choosing::fault_of(payload)),
+        (b'a', ["used", ..]) => "append used".to_owned(),
+        (b'a', words) => refused("append", words, trays::fault_of(payload)),
+        (b'n' | b'p' | b'P' | b'k', words) if words != ["bad", "case"] => sent(op, payload, words),
         _ => line.into_owned(),
+    }
+}
+
+/// A refusal, with what is wrong with the case where it is 9.
+fn refused(family: &str, words: &[&str], fault: Option<&str>) -> String {
+    match (words, fault) {
+        ([.., "refused", "9"], Some(fault)) => format!("{family} refused 9 for {fault}"),
+        (["append", _, "refused", number], _) => format!("{family} append refused {number}"),
+        ([.., "refused", number], _) => format!("{family} refused {number}"),
+        _ => words.join(" "),
+    }
+}
+
+/// The outcome of writing a whole message, which the end of a line tells.
+fn sent(op: u8, payload: &[u8], words: &[&str]) -> String {
+    let (family, options, fault) = match (op, payload) {
+        (b'n', [_, _, _, _, sort, rest @ ..]) => {
+            let family = ["no-protocol", "no-algorithm", "error", "support"][usize::from(*sort)];
+            let flags = if family == "support" { rest[0] } else { 0 };
+            let asked =
+                if flags & 1 != 0 { "algorithms that are asked for" } else { "algorithms that are not asked for" };
+            (family, flagged(["algorithms", "protocols", "keep-alive"], flags), Some(asked))
+        }
+        (b'p' | b'P', [_, _, _, _, flags, ..]) => {
+            let family = if op == b'p' { "plan by calls" } else { "plan by hand" };
+            (family, flagged(["port", "server", "keep-alive"], *flags), plans::fault_of(op, payload))
+        }
+        _ => {
+            let names = sending::names_of(payload).unwrap_or(Ok(0));
+            let options = match names {
+                Err(_) | Ok(0) => "",
+                Ok(1..=8) => " with names",
+                Ok(_) => " with more than eight names",
+            };
+            ("written request", options.to_owned(), names.err())
+        }
+    };
+    match words {
+        [.., "wrote", _] => format!("{family} wrote{options}"),
+        words => refused(family, words, fault),
     }
 }
 
 /// Which of server, port and keep-alive the line of an accepted reply tells.
 fn options(line: &[u8]) -> String {
     let words: Vec<&[u8]> = line.splitn(12, |&byte| byte == b' ').collect();
-    let told = [("server", words[6] != b"-"), ("port", words[8] != b"-"), ("keep-alive", words[10] == b"1")];
-    let told: Vec<&str> = told.into_iter().filter_map(|(option, is_told)| is_told.then_some(option)).collect();
+    told([("server", words[6] != b"-"), ("port", words[8] != b"-"), ("keep-alive", words[10] == b"1")])
+}
+
+/// Which of three options the flags of a case ask for.
+fn flagged(options: [&str; 3], flags: u8) -> String {
+    told([0, 1, 2].map(|index| (options[index], flags >> index & 1 == 1)))
+}
+
+/// The options that are told.
+fn told(options: [(&str, bool); 3]) -> String {
+    let told: Vec<&str> = options.into_iter().filter_map(|(option, is_told)| is_told.then_some(option)).collect();
     if told.is_empty() { String::new() } else { format!(" with {}", told.join(", ")) }
 }
 

@@ -6,6 +6,7 @@ use super::names::{around, pairs_of_bytes};
 use super::records::{name, size};
 use super::{UNKNOWN, is_known};
 use crate::corpus::put;
+use crate::payload::ROOM;
 use crate::random::Random;
 
 /// Kinds whose body has a length of its own.
@@ -13,8 +14,6 @@ const WITH_BODY: [u8; 10] = [1, 4, 5, 6, 9, 10, 11, 12, 13, 14];
 const WITH_NUMBER: [u8; 3] = [2, 3, 7];
 const EMPTY: [u8; 2] = [0, 8];
 const NAMES: [u8; 3] = [6, 13, 14];
-/// The largest room that can be asked for.
-const ROOM: usize = 66_000;
 /// The largest body that every op can carry.
 const LONGEST_BODY: usize = 65_980;
 

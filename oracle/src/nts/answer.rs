@@ -2,7 +2,7 @@
 
 use std::io::{self, BufRead, Write};
 
-use super::{lines, reading, replies, requests, writing};
+use super::{choosing, lines, plans, reading, replies, requests, sending, trays, writing};
 use crate::corpus::Cases;
 
 pub fn corpus(input: impl BufRead, out: &mut impl Write) -> io::Result<bool> {
@@ -46,6 +46,12 @@ fn answered(line: &mut Vec<u8>, op: u8, payload: &[u8]) -> Option<()> {
         b'W' => writing::written_into(line, payload),
         b'X' => writing::written_part(line, payload),
         b'z' => writing::measured(line, payload),
+        b'g' => choosing::chosen(line, payload),
+        b'n' => sending::reply(line, payload),
+        b'a' => trays::appended(line, payload),
+        b'p' => plans::by_calls(line, payload),
+        b'P' => plans::by_hand(line, payload),
+        b'k' => sending::request(line, payload),
         _ => None,
     }
 }

@@ -2,6 +2,10 @@
 
 use std::io::Write;
 
+/// Where the crate as it stands and an edited copy ought to agree and do not, the line begins so, and the comparison fails
+/// by it.
+pub const DISAGREES: &str = "ORACLE DISAGREES";
+
 const DIGITS: &[u8; 16] = b"0123456789abcdef";
 
 /// `<..>`: bytes in hexadecimal.
@@ -47,4 +51,18 @@ pub fn refused_at(line: &mut Vec<u8>, refusal: u8, place: u64) {
     refused(line, refusal);
     text(line, " at ");
     number(line, place);
+}
+
+/// Tells both lines where the copy's, which stands in `line`, is not that of the crate as it stands.
+pub fn judged(line: &mut Vec<u8>, crates: &[u8], copy: &str) {
+    if crates != line {
+        let copys = std::mem::take(line);
+        text(line, DISAGREES);
+        text(line, ", the crate: ");
+        line.extend_from_slice(crates);
+        text(line, ", ");
+        text(line, copy);
+        text(line, ": ");
+        line.extend_from_slice(&copys);
+    }
 }

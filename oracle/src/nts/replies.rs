@@ -9,9 +9,6 @@ use super::whole::{self, Accepted, Answer};
 use crate::corpus::{CELLS, CRATES_LIMIT};
 use crate::generate::{CRITICAL, is_known, kind, word};
 
-/// Where the two readers ought to agree and do not, the line begins so, and the comparison fails by it.
-pub const DISAGREES: &str = "ORACLE DISAGREES";
-
 /// The four differences.
 pub const EMPTY_LIST: &str = "an empty list";
 pub const AUTHENTICATION: &str = "kind 14";
@@ -78,18 +75,10 @@ reader!(edited, messages_edited);
 /// same and are not.
 fn tell(line: &mut Vec<u8>, as_it_stands: Answer, message: &[u8], cells: usize) {
     whole::tell(line, edited(message), message, cells);
-    if difference(message).is_some() {
-        return;
-    }
-    let mut crates = Vec::new();
-    whole::tell(&mut crates, as_it_stands, message, cells);
-    if crates != *line {
-        let copys = std::mem::take(line);
-        lines::text(line, DISAGREES);
-        lines::text(line, ", the crate: ");
-        line.extend_from_slice(&crates);
-        lines::text(line, ", the copy with four edits: ");
-        line.extend_from_slice(&copys);
+    if difference(message).is_none() {
+        let mut crates = Vec::new();
+        whole::tell(&mut crates, as_it_stands, message, cells);
+        lines::judged(line, &crates, "the copy with four edits");
     }
 }
 

@@ -55,8 +55,9 @@ pub fn tell(line: &mut Vec<u8>, answer: Answer, message: &[u8], cells: usize) {
     }
 }
 
-/// Document 01's number for an error of the crate's readers of messages, and the code that is returned with it.
-fn refusal(error: NtsError) -> (u8, Option<u16>) {
+/// Document 01's number for an error of the crate's readers of messages or of its choice, and the code that is returned
+/// with it.
+pub fn refusal(error: NtsError) -> (u8, Option<u16>) {
     match error {
         NtsError::UnrecognizedCriticalRecord => (3, None),
         NtsError::Invalid => (4, None),
@@ -67,7 +68,7 @@ fn refusal(error: NtsError) -> (u8, Option<u16>) {
         NtsError::NoOverlappingProtocol => (13, None),
         NtsError::NoOverlappingAlgorithm => (14, None),
         NtsError::NoCookie => (15, None),
-        other => panic!("the crate's reader gave {other:?}"),
+        other => panic!("the crate gave {other:?}"),
     }
 }
 

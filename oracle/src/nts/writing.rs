@@ -1,22 +1,21 @@
 //! Writing one record with the crate's `NtsRecord::serialize`. Refusals 9 and 10 are document 01's: the crate writes
 //! whatever it is given, into an output without end.
 
-use std::io::ErrorKind;
+use std::io::{self, ErrorKind};
 
 use super::lines;
 use super::poll::now;
 use super::record::NtsRecord;
 use super::{AeadAlgorithm, AlgorithmDescription, NextProtocol};
 use crate::generate::is_known;
+use crate::payload::ROOM;
 
-/// Room of the output of ops w and X, and the most that op W can ask for.
-const ROOM: usize = 66_000;
 /// The largest number of a kind.
 const LARGEST_KIND: u16 = 0x7fff;
 
-const NO_RECORD: u8 = 9;
-const TOO_LONG: u8 = 8;
-const NO_ROOM: u8 = 10;
+pub const NO_VALUE: u8 = 9;
+pub const TOO_LONG: u8 = 8;
+pub const NO_ROOM: u8 = 10;
 
 /// Op w: a record written into an output with room for any.
 pub fn written(line: &mut Vec<u8>, payload: &[u8]) -> Option<()> {
@@ -38,7 +37,7 @@ pub fn written_part(line: &mut Vec<u8>, payload: &[u8]) -> Option<()> {
     let (length, bytes) = payload.split_first_chunk()?;
     let part = inside(bytes, u64::from_be_bytes(*start), u64::from_be_bytes(*length));
     let cookie = part.map(|part| NtsRecord::NewCookie { cookie_data: part.into() });
-    tell(line, serialized(cookie.ok_or(NO_RECORD)), ROOM);
+    tell(line, serialized(cookie.ok_or(NO_VALUE)), ROOM);
     Some(())
 }
 
@@ -60,7 +59,8 @@ fn inside(bytes: &[u8], start: u64, length: u64) -> Option<&[u8]> {
     bytes.get(usize::try_from(start).ok()?..end)
 }
 
-fn tell(line: &mut Vec<u8>, answer: Result<Vec<u8>, u8>, room: usize) {
+/// What was written, or the refusal: 10 where the output has less room.
+pub fn tell(line: &mut Vec<u8>, answer: Result<Vec<u8>, u8>, room: usize) {
     match answer {
         Ok(bytes) if bytes.len() > room => lines::refused(line, NO_ROOM),
         Ok(bytes) => {
@@ -71,13 +71,19 @@ fn tell(line: &mut Vec<u8>, answer: Result<Vec<u8>, u8>, room: usize) {
     }
 }
 
-/// The crate's bytes for a record; 8 where the crate finds the body too long.
+/// The crate's bytes for a record.
 fn serialized(record: Result<NtsRecord, u8>) -> Result<Vec<u8>, u8> {
+    let record = record?;
+    by_the_crate(async |out| record.serialize(out).await)
+}
+
+/// The bytes of one of the crate's writers; 8 where it finds a body too long.
+pub fn by_the_crate(write: impl AsyncFnOnce(&mut Vec<u8>) -> io::Result<()>) -> Result<Vec<u8>, u8> {
     let mut bytes = Vec::new();
-    match now(record?.serialize(&mut bytes)) {
+    match now(write(&mut bytes)) {
         Ok(()) => Ok(bytes),
         Err(error) if error.kind() == ErrorKind::InvalidInput => Err(TOO_LONG),
-        Err(error) => panic!("the crate's record writer gave {error:?}"),
+        Err(error) => panic!("the crate's writer gave {error:?}"),
     }
 }
 
@@ -103,7 +109,7 @@ fn record(payload: &[u8]) -> Option<Result<NtsRecord<'_>, u8>> {
         14 => name(rest).map(|name| NtsRecord::Authentication { key: name.into() }),
         _ => return None,
     };
-    Some(record.ok_or(NO_RECORD))
+    Some(record.ok_or(NO_VALUE))
 }
 
 /// One number, if that is what the bytes are.
@@ -112,13 +118,13 @@ fn number(bytes: &[u8]) -> Option<u16> {
 }
 
 /// Two-byte numbers; none for an odd length.
-fn numbers<T: From<u16>>(bytes: &[u8]) -> Option<Vec<T>> {
+pub fn numbers<T: From<u16>>(bytes: &[u8]) -> Option<Vec<T>> {
     let (numbers, rest) = bytes.as_chunks();
     rest.is_empty().then(|| numbers.iter().map(|&number| u16::from_be_bytes(number).into()).collect())
 }
 
 /// Pairs of an algorithm and its key size; none for an odd number of cells or an odd length.
-fn pairs(bytes: &[u8]) -> Option<Vec<AlgorithmDescription>> {
+pub fn pairs(bytes: &[u8]) -> Option<Vec<AlgorithmDescription>> {
     let (pairs, rest) = bytes.as_chunks();
     let pair = |&[a, b, c, d]: &[u8; 4]| AlgorithmDescription {
         id: AeadAlgorithm::from(u16::from_be_bytes([a, b])),
@@ -127,7 +133,7 @@ fn pairs(bytes: &[u8]) -> Option<Vec<AlgorithmDescription>> {
     rest.is_empty().then(|| pairs.iter().map(pair).collect())
 }
 
-fn name(bytes: &[u8]) -> Option<&str> {
+pub fn name(bytes: &[u8]) -> Option<&str> {
     std::str::from_utf8(bytes).ok()
 }
 

@@ -1,0 +1,69 @@
+//! Takes a payload apart, field by field. An answer is none where the payload ends too soon or a value is out of its range.
+
+/// The largest room that can be asked for.
+pub const ROOM: usize = 66_000;
+/// The flags of ops n, p and P; each of the three bits may be set.
+const FLAGS: [u8; 3] = [1, 2, 4];
+
+/// What is left of a payload.
+pub struct Payload<'a>(pub &'a [u8]);
+
+impl<'a> Payload<'a> {
+    pub fn bytes(&mut self, count: usize) -> Option<&'a [u8]> {
+        let (bytes, rest) = self.0.split_at_checked(count)?;
+        self.0 = rest;
+        Some(bytes)
+    }
+
+    fn chunk<const N: usize>(&mut self) -> Option<[u8; N]> {
+        self.bytes(N)?.try_into().ok()
+    }
+
+    pub fn byte(&mut self) -> Option<u8> {
+        Some(u8::from_be_bytes(self.chunk()?))
+    }
+
+    /// A two-byte number.
+    pub fn number(&mut self) -> Option<u16> {
+        Some(u16::from_be_bytes(self.chunk()?))
+    }
+
+    /// A four-byte length, however large.
+    pub fn length(&mut self) -> Option<usize> {
+        usize::try_from(u32::from_be_bytes(self.chunk()?)).ok()
+    }
+
+    /// A four-byte length that an output or a tray may have.
+    pub fn room(&mut self) -> Option<usize> {
+        self.length().filter(|&room| room <= ROOM)
+    }
+
+    /// Which of the three flags are set.
+    pub fn flags(&mut self) -> Option<[bool; 3]> {
+        let flags = self.byte()?;
+        (flags <= FLAGS.iter().sum()).then(|| FLAGS.map(|bit| flags & bit != 0))
+    }
+
+    /// A two-byte length and that many bytes.
+    pub fn lent(&mut self) -> Option<&'a [u8]> {
+        let count = self.number()?;
+        self.bytes(count.into())
+    }
+
+    /// A two-byte count and the bytes of that many numbers.
+    pub fn cells(&mut self) -> Option<&'a [u8]> {
+        let count = usize::from(self.number()?);
+        self.bytes(2 * count)
+    }
+
+    /// A two-byte count and that many numbers.
+    pub fn numbers<T: From<u16>>(&mut self) -> Option<Vec<T>> {
+        let (numbers, _) = self.cells()?.as_chunks();
+        Some(numbers.iter().map(|&number| u16::from_be_bytes(number).into()).collect())
+    }
+
+    /// Whether nothing is left over.
+    pub fn end(&self) -> Option<()> {
+        self.0.is_empty().then_some(())
+    }
+}
