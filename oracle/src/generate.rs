@@ -1,12 +1,18 @@
 //! Makes the corpora. Each is the same for the same seed.
 
+mod choices;
+mod choosing;
 mod messages;
 mod names;
 mod orders;
+pub mod payloads;
+mod plans;
 mod records;
 mod replies;
 mod requests;
+mod sends;
 mod tokens;
+mod trays;
 mod words;
 mod writes;
 
@@ -33,6 +39,7 @@ pub fn corpus(name: &str, seed: u64, count: Option<u64>, out: &mut impl Write) -
         "sample-writing" => samples::writing(out)?,
         "sample-requests" => samples::requests(out)?,
         "sample-replies" => samples::replies(out)?,
+        "sample-choosing" => samples::choosing(out)?,
         "words" => words::every(seed, out)?,
         "names" => names::boundaries(out)?,
         "names3" => names::of_three(out)?,
@@ -47,6 +54,7 @@ pub fn corpus(name: &str, seed: u64, count: Option<u64>, out: &mut impl Write) -
             messages::messages(&REPLIES, seed, count.unwrap_or(2_300_000), out)?;
         }
         "orders" => orders::orders(&[REQUESTS, REPLIES], seed, count.unwrap_or(20_000), out)?,
+        "choosing" => choosing::choosing(seed, count.unwrap_or(400_000), out)?,
         "writes" => writes::writes(seed, count.unwrap_or(200_000), out)?,
         _ => return Err(io::Error::other(format!("no corpus is named {name}"))),
     }

@@ -1,11 +1,13 @@
 //! The stored sample: few and short cases, chosen so that each line of document 01 has its own.
 
+mod choosing;
 mod named;
 mod reading;
 mod replies;
 mod requests;
 mod writing;
 
+pub use choosing::choosing;
 pub use reading::reading;
 pub use replies::replies;
 pub use requests::requests;
