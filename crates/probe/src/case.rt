@@ -1,5 +1,14 @@
-// Numbers in a case's payload, big-endian; a byte past its end counts as 0.
-ghost use Prim.Native.Nat.{_<_, _^_};
+// What a case's payload holds: big-endian numbers, of which a byte past its end counts as 0, and bytes behind their count.
+ghost use Prim.Native.Nat.{_<_, _≤_, _^_};
+ghost use lib.ListN.{length};
+
+// Bytes of a case: where they start, how many they are, and where they end; bad where the case ends before.
+pub struct Taken {
+    pub bad: bool,
+    pub start: usize,
+    pub len: usize,
+    pub end: usize,
+}
 
 pub(super) fn number16(s: &[u8], i: usize) -> u16 {
     wire::number_at(s, i)
@@ -19,4 +28,85 @@ pub(super) fn number64(s: &[u8], i: usize) -> usize {
         return number32(s, i) * 4294967296 + number32(s, i + 4);
     }
     0
+}
+
+// So many bytes from a place on.
+pub(super) fn take(s: &[u8], at: usize, n: usize) -> Taken {
+    if at <= s.len() {
+        if n <= s.len() - at {
+            return Taken {
+                bad: false,
+                start: at,
+                len: n,
+                end: at + n,
+            };
+        }
+    }
+    Taken {
+        bad: true,
+        start: 0,
+        len: 0,
+        end: 0,
+    }
+}
+
+// A two-byte count, and that many bytes.
+pub(super) fn counted(s: &[u8], at: usize) -> Taken {
+    let count = take(s, at, 2);
+    if count.bad {
+        return count;
+    }
+    take(s, count.end, number16(s, at) as usize)
+}
+
+// A two-byte count, and the bytes of that many numbers.
+pub(super) fn counted_numbers(s: &[u8], at: usize) -> Taken {
+    let count = take(s, at, 2);
+    if count.bad {
+        return count;
+    }
+    take(s, count.end, 2 * (number16(s, at) as usize))
+}
+
+// The numbers of some bytes as cells, as far as there are cells: how many.
+pub(super) fn put_cells(bytes: &[u8], cells: &mut [u16]) -> usize
+    ensures { λ r. ⌜ r ≤ length (now (cells .entry)) ⌝ }
+{
+    let mut i: usize = 0;
+    while i < cells.len() {
+        if bytes.len() / 2 <= i {
+            return i;
+        }
+        cells[i] = number16(bytes, 2 * i);
+        i += 1;
+    }
+    i
+}
+
+// All of a case from a place on.
+pub(super) fn rest(s: &[u8], at: usize) -> &[u8] {
+    if at <= s.len() {
+        return &s[at..];
+    }
+    &s[0..0]
+}
+
+// Whether one of the three flags is set: 1, 2 or 4.
+pub(super) fn flag(flags: u8, bit: u8) -> bool {
+    (flags & bit) == bit
+}
+
+// Whether a case ends behind so many counted bytes.
+pub(super) fn are_counted(s: &[u8], from: usize, count: u8) -> bool {
+    let mut at = from;
+    let mut i: u8 = 0;
+    while i < count {
+        let one = counted(s, at);
+        if one.bad {
+            return false;
+        }
+        at = one.end;
+        i += 1;
+    }
+    at == s.len()
 }

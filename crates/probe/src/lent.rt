@@ -1,6 +1,7 @@
 // What is lent to a call: filled before it, and looked at afterwards.
 use super::text;
 use nts::Refusal;
+use record::ByteCount;
 
 const BYTE: u8 = 0xA5;
 
@@ -24,6 +25,27 @@ pub(super) fn is_filled(dst: &[u8], from: usize) -> bool {
         i += 1;
     }
     true
+}
+
+// Whether two buffers are the same from a place on, and up to another one.
+pub(super) fn is_same(a: &[u8], b: &[u8], from: usize, to: usize) -> bool {
+    let mut i = from;
+    while i < to {
+        if wire::byte_at(a, i) != wire::byte_at(b, i) {
+            return false;
+        }
+        i += 1;
+    }
+    true
+}
+
+// Puts the bytes at the front of a buffer, as far as it reaches.
+pub(super) fn copy(bytes: &[u8], dst: &mut [u8]) {
+    let mut i = 0;
+    while i < dst.len() {
+        dst[i] = wire::byte_at(bytes, i);
+        i += 1;
+    }
 }
 
 pub(super) fn fill_cells(table: &mut [u16]) {
@@ -50,6 +72,22 @@ pub(super) fn put_changed(out: &mut [u8], at: usize, unchanged: bool) -> usize {
         return at;
     }
     text::put_text(out, at, b" CHANGED")
+}
+
+// What a writer answered and left in an output that was filled for the call; ` CHANGED` where a byte behind what it wrote, or any byte of a
+// refused one, is not as it was lent.
+pub(super) fn put_written(out: &mut [u8], at: usize, dst: &[u8], answer: ByteCount) -> usize {
+    match answer {
+        ByteCount::Bytes(n) => {
+            let word = text::put_text(out, at, b"wrote ");
+            let to = text::put_bytes(out, word, wire::part(dst, 0, n));
+            put_changed(out, to, is_filled(dst, n))
+        }
+        ByteCount::Refused(error) => {
+            let to = text::put_refusal(out, at, error);
+            put_changed(out, to, is_filled(dst, 0))
+        }
+    }
 }
 
 // The first cell behind those of so many entries.

@@ -1,14 +1,17 @@
 // Answers a corpus: cases are read from standard input until it ends, and each gets a line.
 mod case;
+mod choosing;
 mod lent;
-mod messages;
+mod plans;
 mod reading;
 mod replies;
 mod requests;
+mod sending;
 mod text;
+mod whole;
 mod writing;
 
-use messages::Sort;
+use whole::Sort;
 ghost use Prim.Native.Nat.{_<_};
 
 struct Went {
@@ -34,11 +37,17 @@ fn answer(
         b'W' => writing::in_room(case, dst, out, at),
         b'X' => writing::part_in(case, dst, out, at),
         b'z' => writing::length_of(case, out, at),
-        b'q' => messages::under(Sort::Request, 4096, case, table, out, at),
-        b'Q' => messages::under(Sort::Request, 65535, case, table, out, at),
-        b'L' => messages::limited(Sort::Request, case, table, out, at),
-        b'y' => messages::under(Sort::Reply, 4096, case, table, out, at),
-        b'l' => messages::limited(Sort::Reply, case, table, out, at),
+        b'q' => whole::under(Sort::Request, 4096, case, table, out, at),
+        b'Q' => whole::under(Sort::Request, 65535, case, table, out, at),
+        b'L' => whole::limited(Sort::Request, case, table, out, at),
+        b'y' => whole::under(Sort::Reply, 4096, case, table, out, at),
+        b'l' => whole::limited(Sort::Reply, case, table, out, at),
+        b'g' => choosing::of_lists(case, out, at),
+        b'n' => sending::reply(case, dst, out, at),
+        b'k' => sending::request(case, dst, out, at),
+        b'a' => plans::appended(case, dst, out, at),
+        b'p' => plans::of_calls(case, dst, out, at),
+        b'P' => plans::of_hand(case, dst, out, at),
         _ => text::bad_case(out, at),
     }
 }

@@ -2,6 +2,7 @@
 use nts::Code;
 use nts::NtsError;
 use nts::Refusal;
+use record::ByteCount;
 use record::Part;
 
 pub(super) fn put(out: &mut [u8], at: usize, b: u8) -> usize {
@@ -84,6 +85,21 @@ pub(super) fn bad_case(out: &mut [u8], at: usize) -> usize {
 // "refused N".
 pub(super) fn put_refusal(out: &mut [u8], at: usize, error: NtsError) -> usize {
     put_number(out, at, b"refused ", error.number() as u64)
+}
+
+// "length N" or "length refused N", and a blank.
+pub(super) fn put_length(out: &mut [u8], at: usize, length: ByteCount) -> usize {
+    let word = put_text(out, at, b"length ");
+    match length {
+        ByteCount::Bytes(n) => {
+            let to = put_decimal(out, word, n as u64);
+            put(out, to, b' ')
+        }
+        ByteCount::Refused(error) => {
+            let to = put_refusal(out, word, error);
+            put(out, to, b' ')
+        }
+    }
 }
 
 // "refused N at P", and " code C" where a code is returned.

@@ -120,24 +120,11 @@ fn record_in(case: &[u8], from: usize) -> Given {
     }
 }
 
-// A record written into an output, with ` CHANGED` where a byte behind it, or any byte of a refused one, is not as it was.
+// A record written into an output that is filled for it.
 fn put_written(item: NtsRecord, source: &[u8], dst: &mut [u8], out: &mut [u8], at: usize) -> usize {
     lent::fill(dst);
     let answer = item.serialize(source, dst);
-    match answer {
-        ByteCount::Bytes(n) => {
-            let word = text::put_text(out, at, b"wrote ");
-            if n <= dst.len() {
-                let to = text::put_bytes(out, word, &dst[0..n]);
-                return lent::put_changed(out, to, lent::is_filled(dst, n));
-            }
-            word
-        }
-        ByteCount::Refused(error) => {
-            let to = text::put_refusal(out, at, error);
-            lent::put_changed(out, to, lent::is_filled(dst, 0))
-        }
-    }
+    lent::put_written(out, at, dst, answer)
 }
 
 // Op w: a record, into an output of all the room.

@@ -1,0 +1,69 @@
+-- `probe::case::put_cells` is safe: the index stays within the cells.
+-- Assumes nothing.
+use mathlib.Core.Path.{_≡_}
+use Prim.Native.Nat.{_≤_, _-_}
+use lib.ListN.{length}
+use borrow.Author.Needs.{needs}
+use Rattle.probe.proofs.case.put_cells.Statement.{statement}
+use Rattle.probe.proofs.case.put_cells.Tie as tie
+
+abbrev Inv-loop : tie.InvT-loop
+Inv-loop bytes cells₀ i₀ cells i = (i ≤ length cells₀) × (length cells ≡ length cells₀)
+
+abbrev μ-loop : tie.MeasureT-loop
+μ-loop bytes cells₀ i₀ cells i = length cells₀ - i
+
+loop-holds : tie.Need-loop-holds Inv-loop μ-loop
+loop-holds c = search needs
+
+same-length : tie.Need-same-length Inv-loop μ-loop
+same-length c = search needs
+
+returns : tie.Need-returns Inv-loop μ-loop
+returns c = search needs
+
+mul-number16 : tie.Need-mul-number16 Inv-loop μ-loop
+mul-number16 c = search needs
+
+number16-requires : tie.Need-number16-requires Inv-loop μ-loop
+number16-requires c κs = search needs
+
+mul-cells : tie.Need-mul-cells Inv-loop μ-loop
+mul-cells c = search needs
+
+slice-write-cells : tie.Need-slice-write-cells Inv-loop μ-loop
+slice-write-cells c = search needs
+
+add-i : tie.Need-add-i Inv-loop μ-loop
+add-i c = search needs
+
+loop-less : tie.Need-loop-less Inv-loop μ-loop
+loop-less c = search needs
+
+loop-again : tie.Need-loop-again Inv-loop μ-loop
+loop-again c = search needs
+
+same-length-2 : tie.Need-same-length-2 Inv-loop μ-loop
+same-length-2 c = search needs
+
+returns-2 : tie.Need-returns-2 Inv-loop μ-loop
+returns-2 c = search needs
+
+pub put-cells-spec : {M : Type 1} → statement M
+put-cells-spec =
+    tie.close
+    (tie.spec
+    Inv-loop
+    μ-loop
+    loop-holds
+    same-length
+    returns
+    mul-number16
+    number16-requires
+    mul-cells
+    slice-write-cells
+    add-i
+    loop-less
+    loop-again
+    same-length-2
+    returns-2)
