@@ -7,3 +7,4 @@ pub mod HandingReply
 pub mod Demand3Reply
 pub mod ExamplesReply
 pub mod Halves
+pub mod HalvesCalls

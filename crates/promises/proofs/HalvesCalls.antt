@@ -1,0 +1,281 @@
+-- "So the two halves of this library can't disagree": a call of a writer of messages that wrote, and a call of a reader on the bytes that it
+-- wrote: whatever follows them, and under every limit that holds them, the reader accepts a written reply or request and hands out what was
+-- written, and refuses the other replies with their own numbers. The theorems over the definitions: proofs/Halves.antt.
+-- Assumes nothing.
+use mathlib.Core.Path.{_≡_, refl, sym, ap, subst, _∙_}
+use mathlib.Core.List.{List, [], _++_, append-nil}
+use mathlib.Core.Bool.{true}
+use Prim.Native.Nat.{ℕ, _≤_}
+use native.Mathlib.Omega.{arith}
+use lib.ListN.{length, take}
+use denote.Ref.{now}
+use Rattle.wire.specs.Bytes.{numberAt}
+use Rattle.wire.specs.Over.{bytesOf}
+use Rattle.wire.proofs.Bytes.{number-back}
+use Rattle.nts.specs.Refusal.{Refused, nothing, code, toldRefusal}
+use Rattle.nts.specs.declared.Refusal.{Refusal}
+use Rattle.nts.specs.declared.NextProtocol.{NextProtocol}
+use Rattle.nts.specs.declared.ErrorCode.{ErrorCode}
+use Rattle.record.specs.Write.{bytes, fitted, Wrote}
+use Rattle.record.specs.declared.write.ByteCount.{ByteCount}
+use Rattle.record.specs.declared.write.ByteCount.the-variants.{Bytes}
+use Rattle.walk.specs.Walk.{Sighting}
+use Rattle.walk.specs.Judge.{refused, accepted}
+use Rattle.places.specs.Places.{roomOf}
+use Rattle.plan.specs.Tray.{cookiesIn, namesIn}
+use Rattle.plan.specs.Plan.{replyLength}
+use Rattle.plan.specs.declared.Plan.{Plan}
+use Rattle.plan.specs.declared.Port.{Port}
+use Rattle.plan.specs.declared.Port.the-variants as port
+use Rattle.reply.specs.Reply as reply
+use Rattle.reply.specs.Reply.{Sent, notSent, sent, mapSent, replyOf}
+use Rattle.reply.specs.declared.KeyExchangeResponse.{KeyExchangeResponse}
+use Rattle.reply.specs.declared.Answer as reply-answer
+use Rattle.reply.specs.declared.Answer.the-variants as reply-answers
+use Rattle.request.specs.Request as request
+use Rattle.request.specs.declared.Request.{Request}
+use Rattle.request.specs.declared.Answer as request-answer
+use Rattle.request.specs.declared.Answer.the-variants as request-answers
+use Rattle.messages.specs.Messages.{cellBytes, allUtf8, messageOf, bodiesOf, replyRecords, replyChecked, noProtocolRecords, noAlgorithmRecords, errorRecords, requestRecords, requestLength, requestChecked}
+use Rattle.messages.proofs.Cleared.{reply-cleared, request-cleared, length-reply, length-request, length-no-protocol, length-no-algorithm, length-error, Stands, wrote-written}
+use Rattle.messages.proofs.write_reply.Reads as write-reply
+use Rattle.messages.proofs.write_no_protocol.Reads as write-no-protocol
+use Rattle.messages.proofs.write_no_algorithm.Reads as write-no-algorithm
+use Rattle.messages.proofs.write_error.Reads as write-error
+use Rattle.messages.proofs.write_request.Reads as write-request
+use Rattle.promises.specs.Handed as request-hand
+use Rattle.promises.specs.HandedReply as reply-hand
+use Rattle.promises.proofs.Calls.{Face}
+use Rattle.promises.proofs.Handing.{request-face}
+use Rattle.promises.proofs.HandingReply.{inHand, reply-face}
+use Rattle.promises.proofs.Demand3 as request-call
+use Rattle.promises.proofs.Demand3Reply as reply-call
+use Rattle.promises.proofs.Halves.{serverSent, portSent, reply-read, request-read, no-protocol-read, no-algorithm-read, error-read}
+
+-- ---- calls of the writers: what each function's own contract says
+
+-- a call of messages::write_reply with a plan, its tray and the server's name, lent an output, with its answer and the output afterwards
+pub record WroteReply (x : Plan) (tray server out : List ℕ) (r : ByteCount) (after : List ℕ) : Type 1 where
+  pub κs : _
+  pub a : _
+  pub e : _
+  pub met : write-reply.Learnt κs a r e
+  pub of-plan : a .0 ≡ x
+  pub of-tray : now (a .1 .0) ≡ tray
+  pub of-server : now (a .1 .1 .0) ≡ server
+  pub of-out : now (a .1 .1 .1 .0) ≡ out
+  pub of-exit : now (e .1 .1 .1 .0) ≡ after
+
+-- a call of messages::write_request with protocols, algorithms, and a tray of denied names with its used length
+pub record WroteRequest (protocols algorithms tray : List ℕ) (used : ℕ) (out : List ℕ) (r : ByteCount) (after : List ℕ) : Type 1 where
+  pub κs : _
+  pub a : _
+  pub e : _
+  pub met : write-request.Learnt κs a r e
+  pub of-protocols : now (a .0) ≡ protocols
+  pub of-algorithms : now (a .1 .0) ≡ algorithms
+  pub of-tray : now (a .1 .1 .0) ≡ tray
+  pub of-used : a .1 .1 .1 .0 ≡ used
+  pub of-out : now (a .1 .1 .1 .1 .0) ≡ out
+  pub of-exit : now (e .1 .1 .1 .1 .0) ≡ after
+
+-- a call of messages::write_no_protocol
+pub record WroteNoProtocol (out : List ℕ) (r : ByteCount) (after : List ℕ) : Type 1 where
+  pub κs : _
+  pub a : _
+  pub e : _
+  pub met : write-no-protocol.Learnt κs a r e
+  pub of-out : now (a .0) ≡ out
+  pub of-exit : now (e .0) ≡ after
+
+-- a call of messages::write_no_algorithm with a protocol
+pub record WroteNoAlgorithm (p : NextProtocol) (out : List ℕ) (r : ByteCount) (after : List ℕ) : Type 1 where
+  pub κs : _
+  pub a : _
+  pub e : _
+  pub met : write-no-algorithm.Learnt κs a r e
+  pub of-protocol : a .0 ≡ p
+  pub of-out : now (a .1 .0) ≡ out
+  pub of-exit : now (e .1 .0) ≡ after
+
+-- a call of messages::write_error with a code
+pub record WroteError (c : ErrorCode) (out : List ℕ) (r : ByteCount) (after : List ℕ) : Type 1 where
+  pub κs : _
+  pub a : _
+  pub e : _
+  pub met : write-error.Learnt κs a r e
+  pub of-code : a .0 ≡ c
+  pub of-out : now (a .1 .0) ≡ out
+  pub of-exit : now (e .1 .0) ≡ after
+
+-- ---- of any reader: a call on the message m that stands at the front of an output, and any tail
+
+module _ {Q : Type 0 → Type 0} {X A S : Type 0} (F : Face Q X A S) (m after : List ℕ) (k : ℕ) (s : Stands m k after) (t : List ℕ) (n : ℕ) (table : List ℕ) (r : A)
+    (table′ : List ℕ) (c : F .Reads (take k after ++ t) n table r table′) where
+  same : take k after ++ t ≡ m ++ t
+  same = ap (λ (l : List ℕ). l ++ t) (s .front)
+
+  as-written : F .Reads (m ++ t) n table r table′
+  as-written = subst (λ (l : List ℕ). F .Reads l n table r table′) same c
+
+  -- the definition accepts and shows b: so does the call, and it hands out b
+  shown-back : (b : Q (List ℕ)) → ((q : Q Sighting) × (F .reading (m ++ t) n (roomOf table) ≡ accepted q) × (F .shows (m ++ t) q ≡ b))
+      → (x : X) × (r ≡ F .accept x) × (F .hand (take k after ++ t) table′ x ≡ F .inHand b)
+  shown-back b q =
+      let x = F .answers (m ++ t) n table r table′ as-written (q .0) (q .1) in (
+        x .0,
+        x .1,
+        ap (λ (l : List ℕ). F .hand l table′ (x .0)) same
+            ∙ F .in-hand (m ++ t) n table r table′ as-written (x .0) (q .0) (x .1) (q .1)
+            ∙ ap (F .inHand) (q .2),
+      )
+
+  -- the definition refuses: so does the call, and its table stays as it was
+  refused-back : (y : Refused) → F .reading (m ++ t) n (roomOf table) ≡ refused y
+      → (z : Refusal) × (r ≡ F .refuse z) × (toldRefusal z ≡ y) × (table′ ≡ table)
+  refused-back y w = F .refuses (m ++ t) n table r table′ as-written y w
+
+-- what a reader's own contract says of its call
+reply-reads : (m : List ℕ) (n : ℕ) (table : List ℕ) (r : reply-answer.Answer) (after : List ℕ) → reply-call.Called m n table r after → reply.Reads m n table r after
+reply-reads m n table r after c = rw (← c .of-message, ← c .of-limit, ← c .of-table, ← c .of-exit) (c .met)
+
+request-reads : (m : List ℕ) (n : ℕ) (table : List ℕ) (r : request-answer.Answer) (after : List ℕ) → request-call.Called m n table r after → request.Reads m n table r after
+request-reads m n table r after c = rw (← c .of-message, ← c .of-limit, ← c .of-table, ← c .of-exit) (c .met)
+
+-- ---- a reply
+
+-- the cookies that a plan's tray holds
+abbrev pub cookiesOf : Plan → List ℕ → List (List ℕ)
+cookiesOf x tray = bodiesOf (cookiesIn (x .used) tray)
+
+-- the port, if planned
+abbrev pub portNumber : Port → Sent ℕ
+portNumber port.None = notSent
+portNumber (port.Number n) = sent n
+
+-- what is in hand of the bodies that a written reply shows
+number-of : (n : ℕ) → numberAt (bytesOf n) 0 ≡ n
+number-of n = ap (λ (b : List ℕ). numberAt b 0) (sym (append-nil (bytesOf n))) ∙ number-back n []
+
+port-of : (y : Port) → mapSent (λ (b : List ℕ). numberAt b 0) (portSent y) ≡ portNumber y
+port-of port.None = refl
+port-of (port.Number n) = ap sent (number-of n)
+
+reply-in-hand : (x : Plan) (server : List ℕ) (l : List (List ℕ))
+    → inHand (reply.reply (bytesOf (x .protocol .0)) (bytesOf (x .algorithm .0)) (serverSent (x .name) server) (portSent (x .port)) (x .«keep_alive») l)
+    ≡ reply-hand.reply (x .protocol .0) (x .algorithm .0) (serverSent (x .name) server) (portNumber (x .port)) (x .«keep_alive») (length l) l
+reply-in-hand x server l = rw (number-of (x .protocol .0), number-of (x .algorithm .0), port-of (x .port))
+
+module _ (x : Plan) (tray server out : List ℕ) (k : ℕ) (after : List ℕ) (w : WroteReply x tray server out (Bytes k) after) where
+  wrote-reply : Wrote (fitted (length out) (replyChecked x server (cookiesIn (x .used) tray))) (messageOf (replyRecords x server (cookiesOf x tray))) out (Bytes k) after
+  wrote-reply = rw (← w .of-plan, ← w .of-tray, ← w .of-server, ← w .of-out, ← w .of-exit) (w .met)
+
+  -- a call of messages::write_reply that wrote k bytes left them in the output; and a call of reply::KeyExchangeResponse::parse on them,
+  -- whatever follows them, under every limit that is k or more, with a table that has room for the cookies, accepts, and hands out the plan's
+  -- protocol and algorithm, the server's name and the port if they are planned, keep-alive as planned, and the tray's cookies in their order
+  pub reply-read-back : (k ≤ length after)
+      × ((t : List ℕ) (n : ℕ) (table : List ℕ) (r : reply-answer.Answer) (table′ : List ℕ) → reply-call.Called (take k after ++ t) n table r table′
+      → k ≤ n → length (cookiesOf x tray) ≤ roomOf table
+      → (y : KeyExchangeResponse) × (r ≡ reply-answers.Accepted y)
+      × (reply-hand.handedOut (take k after ++ t) table′ y
+      ≡ reply-hand.reply (x .protocol .0) (x .algorithm .0) (serverSent (x .name) server) (portNumber (x .port)) (x .«keep_alive») (length (cookiesOf x tray))
+      (cookiesOf x tray)))
+  reply-read-back =
+      let f = cookiesIn (x .used) tray in
+      let l = cookiesOf x tray in
+      let m = messageOf (replyRecords x server l) in
+      let v = wrote-written (replyChecked x server f) m out after k wrote-reply in
+      let j = reply-cleared x server f k (v .judged) in
+      let e : l ≡ j .bodies = ap bodiesOf (j .are) in
+      let some : 1 ≤ length l = rw e (j .some) in
+      let s = v .stands (length-reply x server l (j .named) ∙ ap (replyLength x) e ∙ sym (j .long)) in (
+        s .inside,
+        λ t n table r table′ c h g.
+            let d = reply-read x server (j .utf8) l t n (roomOf table) some g (omega (arith, s .long)) in
+            let b = shown-back reply-face m after k s t n table r table′ (reply-reads (take k after ++ t) n table r table′ c) _ d in
+            (b .0, b .1, b .2 ∙ reply-in-hand x server l),
+      )
+
+-- ---- a request
+
+-- the denied names that a tray holds
+abbrev pub namesOf : ℕ → List ℕ → List (List ℕ)
+namesOf used tray = bodiesOf (namesIn used tray)
+
+module _ (protocols algorithms tray : List ℕ) (used : ℕ) (out : List ℕ) (k : ℕ) (after : List ℕ) (w : WroteRequest protocols algorithms tray used out (Bytes k) after) where
+  wrote-request : Wrote (fitted (length out) (requestChecked protocols algorithms (namesIn used tray))) (messageOf (requestRecords protocols algorithms (namesOf used tray))) out (Bytes k) after
+  wrote-request = rw (← w .of-protocols, ← w .of-algorithms, ← w .of-tray, ← w .of-used, ← w .of-out, ← w .of-exit) (w .met)
+
+  -- a call of messages::write_request that wrote k bytes left them in the output; and a call of request::Request::parse on them, whatever
+  -- follows them, under every limit that is k or more, with a table that has room for the names, accepts a key-exchange request, and hands out
+  -- the protocols, the algorithms and the tray's names, each in their order
+  pub request-read-back : (k ≤ length after)
+      × ((t : List ℕ) (n : ℕ) (table : List ℕ) (r : request-answer.Answer) (table′ : List ℕ) → request-call.Called (take k after ++ t) n table r table′
+      → k ≤ n → length (namesOf used tray) ≤ roomOf table
+      → (y : Request) × (r ≡ request-answers.Accepted y)
+      × (request-hand.handedOut (take k after ++ t) table′ y
+      ≡ request-hand.keyExchange (cellBytes protocols) (cellBytes algorithms) (length (namesOf used tray)) (namesOf used tray)))
+  request-read-back =
+      let f = namesIn used tray in
+      let l = namesOf used tray in
+      let m = messageOf (requestRecords protocols algorithms l) in
+      let v = wrote-written (requestChecked protocols algorithms f) m out after k wrote-request in
+      let j = request-cleared protocols algorithms f k (v .judged) in
+      let e : l ≡ j .bodies = ap bodiesOf (j .are) in
+      let utf8 : allUtf8 l ≡ true = ap allUtf8 e ∙ j .utf8 in
+      let s = v .stands (length-request protocols algorithms l ∙ ap (requestLength protocols algorithms) e ∙ sym (j .long)) in (
+        s .inside,
+        λ t n table r table′ c h g.
+            let d = request-read protocols algorithms l utf8 t n (roomOf table) g (omega (arith, s .long)) in
+            shown-back request-face m after k s t n table r table′ (request-reads (take k after ++ t) n table r table′ c) _ d,
+      )
+
+-- ---- the other replies
+
+same-count : (i k : ℕ) → bytes i ≡ bytes k → i ≡ k
+same-count i k e = cc
+
+-- k bytes stand in the output; and a call of reply::KeyExchangeResponse::parse on them, whatever follows them, under every limit that is k or
+-- more, with any table, refuses with y, and leaves its table as it was
+abbrev pub RefusedBack : ℕ → List ℕ → Refused → Type 1
+RefusedBack k after y =
+    (k ≤ length after)
+    × ((t : List ℕ) (n : ℕ) (table : List ℕ) (r : reply-answer.Answer) (table′ : List ℕ) → reply-call.Called (take k after ++ t) n table r table′
+    → k ≤ n
+    → (z : Refusal) × (r ≡ reply-answers.Refused z) × (toldRefusal z ≡ y) × (table′ ≡ table))
+
+-- a writer wrote a message of i bytes, which the definition refuses, whatever follows it, under every limit that holds it and with any room
+reply-refused-back : (i : ℕ) (m out after : List ℕ) (k : ℕ) (y : Refused) → Wrote (fitted (length out) (bytes i)) m out (Bytes k) after → length m ≡ i
+    → ((t : List ℕ) (n room : ℕ) → length m ≤ n → replyOf (m ++ t) n room ≡ refused y) → RefusedBack k after y
+reply-refused-back i m out after k y w l law =
+    let v = wrote-written (bytes i) m out after k w in
+    let e : i ≡ k = same-count i k (v .judged) in
+    let s = v .stands (l ∙ e) in (
+      s .inside,
+      λ t n table r table′ c h.
+          refused-back reply-face m after k s t n table r table′ (reply-reads (take k after ++ t) n table r table′ c) y
+          (law t n (roomOf table) (omega (arith, s .long))),
+    )
+
+-- what a call of messages::write_no_protocol wrote, the reply reader's call refuses with 13 and nothing beside it, at its end record's place
+pub no-protocol-read-back : (out : List ℕ) (k : ℕ) (after : List ℕ) → WroteNoProtocol out (Bytes k) after
+    → RefusedBack k after (record { number = 13; beside = nothing; place = 4 })
+no-protocol-read-back out k after w =
+    reply-refused-back 8 (messageOf noProtocolRecords) out after k _ (rw (← w .of-out, ← w .of-exit) (w .met)) length-no-protocol
+    (λ t n room h. no-protocol-read t n room h)
+
+-- what a call of messages::write_no_algorithm wrote, with whatever protocol: with 14 and nothing beside it, at its end record's place
+pub no-algorithm-read-back : (p : NextProtocol) (out : List ℕ) (k : ℕ) (after : List ℕ) → WroteNoAlgorithm p out (Bytes k) after
+    → RefusedBack k after (record { number = 14; beside = nothing; place = 10 })
+no-algorithm-read-back p out k after w =
+    reply-refused-back 14 (messageOf (noAlgorithmRecords (p .0))) out after k _ (rw (← w .of-protocol, ← w .of-out, ← w .of-exit) (w .met))
+    (length-no-algorithm (p .0))
+    (λ t n room h. no-algorithm-read t n room (p .0) h)
+
+-- what a call of messages::write_error wrote: with 11 and beside it the code, at the error record, which is the first
+pub error-read-back : (c : ErrorCode) (out : List ℕ) (k : ℕ) (after : List ℕ) → WroteError c out (Bytes k) after
+    → RefusedBack k after (record { number = 11; beside = code (c .0); place = 0 })
+error-read-back c out k after w =
+    reply-refused-back 10 (messageOf (errorRecords (c .0))) out after k _ (rw (← w .of-code, ← w .of-out, ← w .of-exit) (w .met))
+    (length-error (c .0))
+    (λ t n room h. error-read t n room (c .0) h)
