@@ -134,7 +134,7 @@ length-number : (n : ℕ) → length (bytesOf n) ≡ 2
 unfolding bytesOf
 length-number n = refl
 
-length-cells : (l : List ℕ) → length (cellBytes l) ≡ 2 * length l
+pub length-cells : (l : List ℕ) → length (cellBytes l) ≡ 2 * length l
 length-cells [] = refl
 length-cells (n ∷ l) = omega (arith, length-append (bytesOf n) (cellBytes l), length-number n, length-cells l)
 

@@ -35,6 +35,7 @@ use Rattle.reply.proofs.Lawful.{reply-lawful}
 use Rattle.request.specs.Request as request
 use Rattle.request.proofs.Lawful.{request-lawful}
 use Rattle.messages.specs.Messages.{recordOf, recordWith, cellBytes, ifAsked, endRecord, messageOf, serverRecord, portRecord, replyRecords, noProtocolRecords, noAlgorithmRecords, errorRecords, requestRecords, allUtf8}
+use Rattle.messages.proofs.Cleared.{length-cells}
 use Rattle.messages.proofs.Records.{whole-written, faultless-written, act-written, notes-written, one-noted, last-written}
 
 -- ---- kinds of which a second record is refused
@@ -163,13 +164,8 @@ module _ (x : Plan) (s : List ℕ) (utf8 : wellFormed s ≡ true) (l : List (Lis
 
 -- ---- a request
 
-cells-length : (l : List ℕ) → length (cellBytes l) ≡ 2 * length l
-unfolding bytesOf
-cells-length [] = refl
-cells-length (n ∷ l) = omega (arith, cells-length l)
-
 cells-even : (l : List ℕ) → length (cellBytes l) % 2 ≡ 0
-cells-even l = omega (arith, cells-length l)
+cells-even l = omega (arith, length-cells l)
 
 each-name : (l : List (List ℕ)) → allUtf8 l ≡ true → Each (λ b. Notes request.reader 13 b (recordWith 13 false b)) l
 unfolding shapeOf actBy known request.act

@@ -135,13 +135,6 @@ module _ {Q : Type 0 → Type 0} {X A S : Type 0} (F : Face Q X A S) (m after : 
       → (z : Refusal) × (r ≡ F .refuse z) × (toldRefusal z ≡ y) × (table′ ≡ table)
   refused-back y w = F .refuses (m ++ t) n table r table′ as-written y w
 
--- what a reader's own contract says of its call
-reply-reads : (m : List ℕ) (n : ℕ) (table : List ℕ) (r : reply-answer.Answer) (after : List ℕ) → reply-call.Called m n table r after → reply.Reads m n table r after
-reply-reads m n table r after c = rw (← c .of-message, ← c .of-limit, ← c .of-table, ← c .of-exit) (c .met)
-
-request-reads : (m : List ℕ) (n : ℕ) (table : List ℕ) (r : request-answer.Answer) (after : List ℕ) → request-call.Called m n table r after → request.Reads m n table r after
-request-reads m n table r after c = rw (← c .of-message, ← c .of-limit, ← c .of-table, ← c .of-exit) (c .met)
-
 -- ---- a reply
 
 -- the cookies that a plan's tray holds
@@ -192,7 +185,7 @@ module _ (x : Plan) (tray server out : List ℕ) (k : ℕ) (after : List ℕ) (w
         s .inside,
         λ t n table r table′ c h g.
             let d = reply-read x server (j .utf8) l t n (roomOf table) some g (omega (arith, s .long)) in
-            let b = shown-back reply-face m after k s t n table r table′ (reply-reads (take k after ++ t) n table r table′ c) _ d in
+            let b = shown-back reply-face m after k s t n table r table′ (reply-call.called-reads (take k after ++ t) n table r table′ c) _ d in
             (b .0, b .1, b .2 ∙ reply-in-hand x server l),
       )
 
@@ -227,7 +220,7 @@ module _ (protocols algorithms tray : List ℕ) (used : ℕ) (out : List ℕ) (k
         s .inside,
         λ t n table r table′ c h g.
             let d = request-read protocols algorithms l utf8 t n (roomOf table) g (omega (arith, s .long)) in
-            shown-back request-face m after k s t n table r table′ (request-reads (take k after ++ t) n table r table′ c) _ d,
+            shown-back request-face m after k s t n table r table′ (request-call.called-reads (take k after ++ t) n table r table′ c) _ d,
       )
 
 -- ---- the other replies
@@ -253,7 +246,7 @@ reply-refused-back i m out after k y w l law =
     let s = v .stands (l ∙ e) in (
       s .inside,
       λ t n table r table′ c h.
-          refused-back reply-face m after k s t n table r table′ (reply-reads (take k after ++ t) n table r table′ c) y
+          refused-back reply-face m after k s t n table r table′ (reply-call.called-reads (take k after ++ t) n table r table′ c) y
           (law t n (roomOf table) (omega (arith, s .long))),
     )
 
