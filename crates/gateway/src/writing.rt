@@ -1,0 +1,308 @@
+// The writers of whole messages and of one record, and their lengths. Each answers the length into one cell; a refusal changes neither it nor the output.
+use super::cells;
+use super::planning;
+use super::planning::Held;
+use messages::Asked;
+use nts::ErrorCode;
+use nts::NextProtocol;
+use nts::WarningCode;
+use record::ByteCount;
+use record::NtsRecord;
+use record::Part;
+ghost use mathlib.Core.Path.{_≡_};
+ghost use Prim.Native.Nat.{_≤_};
+ghost use lib.ListN.{length};
+ghost use Rattle.wire.specs.Over.{over};
+ghost use Rattle.record.specs.Write.{bytes, fitted, toldCount};
+ghost use Rattle.plan.specs.Tray.{namesIn};
+ghost use Rattle.messages.specs.Messages.{messageOf, bodiesOf, noProtocolRecords, noAlgorithmRecords, errorRecords, supportRecords, requestRecords, requestChecked};
+ghost use Rattle.gateway.specs.Cells.{countNumber, countCells, Gives, Writes};
+ghost use Rattle.gateway.specs.Planned.{planIn, plannedLength, plannedReply, plannedBytes};
+ghost use Rattle.gateway.specs.Given.{recordIn, isRecord, itemOf, heldLength, heldBytes, askedOf, supportCount};
+ghost use Rattle.gateway.specs.Code.{toldGiven};
+
+// The record that cells hold.
+pub enum Given {
+    Item(NtsRecord),
+    None,
+}
+
+// The length of the reply that a plan is for: 9 for cells that hold no plan and for a broken tray.
+#[no_mangle]
+pub extern "C" fn ntske_plan_length(plan: &[usize], tray: &[u8], length: &mut [usize]) -> u32
+    ensures { λ r. ⌜ Gives 1 (countNumber (plannedLength (planIn (now (plan .entry))) (now (tray .entry)))) (countCells (plannedLength (planIn (now (plan .entry))) (now (tray .entry)))) (now (length .entry)) r (now (length .exit)) ⌝ }
+{
+    if length.len() < 1 {
+        return cells::NO_ROOM;
+    }
+    let held = planning::plan_in(plan);
+    let Held::Plan(x) = held else {
+        return cells::NO_VALUE;
+    };
+    let answer = x.length(tray);
+    put_count(answer, length)
+}
+
+// Writes the reply that a plan is for, with the server's name: 9 for cells that hold no plan, a broken tray, or a name of another length or that is not
+// UTF-8, then 15 for no cookie, then 10.
+#[no_mangle]
+pub extern "C" fn ntske_write_reply(
+    plan: &[usize],
+    tray: &[u8],
+    server: &[u8],
+    out: &mut [u8],
+    written: &mut [usize],
+) -> u32
+    ensures { λ r. ⌜ Writes (plannedReply (planIn (now (plan .entry))) (now (tray .entry)) (now (server .entry)) (length (now (out .entry))))
+        (plannedBytes (planIn (now (plan .entry))) (now (tray .entry)) (now (server .entry))) (now (out .entry)) (now (written .entry)) r (now (out .exit)) (now (written .exit)) ⌝ }
+{
+    if written.len() < 1 {
+        return cells::NO_ROOM;
+    }
+    let held = planning::plan_in(plan);
+    let Held::Plan(x) = held else {
+        return cells::NO_VALUE;
+    };
+    let answer = messages::write_reply(x, tray, server, out);
+    put_count(answer, written)
+}
+
+// Writes the reply that no protocol is agreed on: 10.
+#[no_mangle]
+pub extern "C" fn ntske_write_no_protocol(out: &mut [u8], written: &mut [usize]) -> u32
+    ensures { λ r. ⌜ Writes (fitted (length (now (out .entry))) (bytes 8)) (messageOf noProtocolRecords) (now (out .entry)) (now (written .entry)) r (now (out .exit)) (now (written .exit)) ⌝ }
+{
+    if written.len() < 1 {
+        return cells::NO_ROOM;
+    }
+    let answer = messages::write_no_protocol(out);
+    put_count(answer, written)
+}
+
+// Writes the reply that no algorithm is agreed on, with the protocol: 10.
+#[no_mangle]
+pub extern "C" fn ntske_write_no_algorithm(
+    protocol: u16,
+    out: &mut [u8],
+    written: &mut [usize],
+) -> u32
+    ensures { λ r. ⌜ Writes (fitted (length (now (out .entry))) (bytes 14)) (messageOf (noAlgorithmRecords protocol)) (now (out .entry)) (now (written .entry)) r (now (out .exit)) (now (written .exit)) ⌝ }
+{
+    if written.len() < 1 {
+        return cells::NO_ROOM;
+    }
+    let answer = messages::write_no_algorithm(NextProtocol(protocol), out);
+    put_count(answer, written)
+}
+
+// Writes the reply that tells an error: 10.
+#[no_mangle]
+pub extern "C" fn ntske_write_error(code: u16, out: &mut [u8], written: &mut [usize]) -> u32
+    ensures { λ r. ⌜ Writes (fitted (length (now (out .entry))) (bytes 10)) (messageOf (errorRecords code)) (now (out .entry)) (now (written .entry)) r (now (out .exit)) (now (written .exit)) ⌝ }
+{
+    if written.len() < 1 {
+        return cells::NO_ROOM;
+    }
+    let answer = messages::write_error(ErrorCode(code), out);
+    put_count(answer, written)
+}
+
+// Writes a support reply: 1 for algorithms, 2 for protocols, 4 for keep-alive, and their sums. 9 for another number or an odd number of cells of
+// pairs, then 8 for a list that is to be written, then 10.
+#[no_mangle]
+pub extern "C" fn ntske_write_support(
+    asked: u8,
+    pairs: &[u16],
+    protocols: &[u16],
+    out: &mut [u8],
+    written: &mut [usize],
+) -> u32
+    ensures { λ r. ⌜ Writes (fitted (length (now (out .entry))) (supportCount asked (now (pairs .entry)) (now (protocols .entry))))
+        (messageOf (supportRecords (askedOf asked) (now (pairs .entry)) (now (protocols .entry)))) (now (out .entry)) (now (written .entry)) r (now (out .exit)) (now (written .exit)) ⌝ }
+{
+    if written.len() < 1 {
+        return cells::NO_ROOM;
+    }
+    if 7 < asked {
+        return cells::NO_VALUE;
+    }
+    let answer = messages::write_support(asked_of(asked), pairs, protocols, out);
+    put_count(answer, written)
+}
+
+// Its exact length, with the writer's 9 and 8.
+#[no_mangle]
+pub extern "C" fn ntske_support_length(
+    asked: u8,
+    pairs: &[u16],
+    protocols: &[u16],
+    length: &mut [usize],
+) -> u32
+    ensures { λ r. ⌜ Gives 1 (countNumber (supportCount asked (now (pairs .entry)) (now (protocols .entry)))) (countCells (supportCount asked (now (pairs .entry)) (now (protocols .entry)))) (now (length .entry)) r (now (length .exit)) ⌝ }
+{
+    if length.len() < 1 {
+        return cells::NO_ROOM;
+    }
+    if 7 < asked {
+        return cells::NO_VALUE;
+    }
+    let answer = messages::support_length(asked_of(asked), pairs, protocols);
+    put_count(answer, length)
+}
+
+// Writes a key-exchange request with the names of a tray: 9 for a broken tray or a name that is not UTF-8, then 8, then 10.
+#[no_mangle]
+pub extern "C" fn ntske_write_request(
+    protocols: &[u16],
+    algorithms: &[u16],
+    tray: &[u8],
+    used: usize,
+    out: &mut [u8],
+    written: &mut [usize],
+) -> u32
+    ensures { λ r. ⌜ Writes (fitted (length (now (out .entry))) (requestChecked (now (protocols .entry)) (now (algorithms .entry)) (namesIn used (now (tray .entry)))))
+        (messageOf (requestRecords (now (protocols .entry)) (now (algorithms .entry)) (bodiesOf (namesIn used (now (tray .entry)))))) (now (out .entry)) (now (written .entry)) r (now (out .exit)) (now (written .exit)) ⌝ }
+{
+    if written.len() < 1 {
+        return cells::NO_ROOM;
+    }
+    let answer = messages::write_request(protocols, algorithms, tray, used, out);
+    put_count(answer, written)
+}
+
+// Its exact length, with the writer's 9 and 8.
+#[no_mangle]
+pub extern "C" fn ntske_request_length(
+    protocols: &[u16],
+    algorithms: &[u16],
+    tray: &[u8],
+    used: usize,
+    length: &mut [usize],
+) -> u32
+    ensures { λ r. ⌜ Gives 1 (countNumber (requestChecked (now (protocols .entry)) (now (algorithms .entry)) (namesIn used (now (tray .entry)))))
+        (countCells (requestChecked (now (protocols .entry)) (now (algorithms .entry)) (namesIn used (now (tray .entry))))) (now (length .entry)) r (now (length .exit)) ⌝ }
+{
+    if length.len() < 1 {
+        return cells::NO_ROOM;
+    }
+    let answer = messages::request_length(protocols, algorithms, tray, used);
+    put_count(answer, length)
+}
+
+// Writes one record, told by seven cells as the reader of one record gives them; its parts lie in the source. 9 for cells that hold no record and for
+// what is none by document 01, then 8, then 10.
+#[no_mangle]
+pub extern "C" fn ntske_write_record(
+    item: &[usize],
+    source: &[u8],
+    out: &mut [u8],
+    written: &mut [usize],
+) -> u32
+    ensures { λ r. ⌜ Writes (fitted (length (now (out .entry))) (heldLength (recordIn (now (item .entry))) (now (source .entry))))
+        (heldBytes (recordIn (now (item .entry))) (now (source .entry))) (now (out .entry)) (now (written .entry)) r (now (out .exit)) (now (written .exit)) ⌝ }
+{
+    if written.len() < 1 {
+        return cells::NO_ROOM;
+    }
+    let given = record_in(item);
+    let Given::Item(x) = given else {
+        return cells::NO_VALUE;
+    };
+    let answer = x.serialize(source, out);
+    put_count(answer, written)
+}
+
+// Its exact length, with the writer's 9 and 8.
+#[no_mangle]
+pub extern "C" fn ntske_record_length(item: &[usize], source: &[u8], length: &mut [usize]) -> u32
+    ensures { λ r. ⌜ Gives 1 (countNumber (heldLength (recordIn (now (item .entry))) (now (source .entry)))) (countCells (heldLength (recordIn (now (item .entry))) (now (source .entry)))) (now (length .entry)) r (now (length .exit)) ⌝ }
+{
+    if length.len() < 1 {
+        return cells::NO_ROOM;
+    }
+    let given = record_in(item);
+    let Given::Item(x) = given else {
+        return cells::NO_VALUE;
+    };
+    let answer = x.length(source);
+    put_count(answer, length)
+}
+
+fn put_count(answer: ByteCount, count: &mut [usize]) -> u32
+    requires { ⌜ 1 ≤ length (now count) ⌝ }
+    ensures { λ r. ⌜ (r ≡ countNumber (toldCount answer)) × (now (count .exit) ≡ over (countCells (toldCount answer)) (now (count .entry))) ⌝ }
+{
+    match answer {
+        ByteCount::Bytes(n) => {
+            cells::put_one(n, count);
+            0
+        }
+        ByteCount::Refused(error) => error.number() as u32,
+    }
+}
+
+fn asked_of(n: u8) -> Asked
+    ensures { λ r. ⌜ r ≡ askedOf n ⌝ }
+{
+    Asked {
+        algorithms: n % 2 == 1,
+        protocols: n / 2 % 2 == 1,
+        keep_alive: n / 4 == 1,
+    }
+}
+
+// The record that cells hold: seven at least, kind and number of sixteen bits, and a bit of 0 or 1.
+fn record_in(c: &[usize]) -> Given
+    ensures { λ r. ⌜ toldGiven r ≡ recordIn (now (c .entry)) ⌝ }
+{
+    if is_record(c) {
+        let first = Part {
+            start: c[3],
+            len: c[4],
+        };
+        let second = Part {
+            start: c[5],
+            len: c[6],
+        };
+        return Given::Item(item_of(c[0] as u16, c[1] == 1, c[2] as u16, first, second));
+    }
+    Given::None
+}
+
+fn is_record(c: &[usize]) -> bool
+    ensures { λ r. ⌜ r ≡ isRecord (now (c .entry)) ⌝ }
+{
+    if c.len() < cells::RECORD {
+        return false;
+    }
+    (c[0] <= 65535) & (c[1] <= 1) & (c[2] <= 65535)
+}
+
+fn item_of(kind: u16, bit: bool, n: u16, first: Part, second: Part) -> NtsRecord
+    ensures { λ r. ⌜ r ≡ itemOf kind bit n first second ⌝ }
+{
+    match kind {
+        NtsRecord::END_OF_MESSAGE => NtsRecord::EndOfMessage,
+        NtsRecord::NEXT_PROTOCOL => NtsRecord::NextProtocol(first),
+        NtsRecord::ERROR => NtsRecord::Error(ErrorCode(n)),
+        NtsRecord::WARNING => NtsRecord::Warning(WarningCode(n)),
+        NtsRecord::AEAD_ALGORITHM => NtsRecord::AeadAlgorithm(first),
+        NtsRecord::NEW_COOKIE => NtsRecord::NewCookie(first),
+        NtsRecord::SERVER => NtsRecord::Server(first),
+        NtsRecord::PORT => NtsRecord::Port(n),
+        NtsRecord::KEEP_ALIVE => NtsRecord::KeepAlive,
+        NtsRecord::SUPPORTED_NEXT_PROTOCOL_LIST => NtsRecord::SupportedNextProtocolList(first),
+        NtsRecord::SUPPORTED_ALGORITHM_LIST => NtsRecord::SupportedAlgorithmList(first),
+        NtsRecord::FIXED_KEY_REQUEST => NtsRecord::FixedKeyRequest {
+            c2s: first,
+            s2c: second,
+        },
+        NtsRecord::NTP_SERVER_DENY => NtsRecord::NtpServerDeny(first),
+        NtsRecord::AUTHENTICATION => NtsRecord::Authentication(first),
+        _ => NtsRecord::Unknown {
+            record_type: kind,
+            critical: bit,
+            data: first,
+        },
+    }
+}
