@@ -2,7 +2,7 @@
 ghost use mathlib.Core.Path.{_≡_};
 ghost use mathlib.Core.List.{[], _∷_};
 ghost use Prim.Native.Nat.{_≤_};
-ghost use lib.ListN.{length, getD};
+ghost use lib.ListN.{length};
 ghost use Rattle.wire.specs.Over.{over};
 
 // How many cells the answer of a reader has, a plan, and a record that is to be written.
@@ -69,14 +69,4 @@ pub(crate) fn put_ten(x: Ten, cells: &mut [usize])
     cells[7] = x.h;
     cells[8] = x.i;
     cells[9] = x.j;
-}
-
-// The cell at an index, and 0 where there is none.
-pub(crate) fn at(cells: &[usize], i: usize) -> usize
-    ensures { λ r. ⌜ r ≡ getD (now (cells .entry)) i 0 ⌝ }
-{
-    if i < cells.len() {
-        return cells[i];
-    }
-    0
 }

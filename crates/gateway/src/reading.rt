@@ -500,12 +500,20 @@ fn put_part(size: usize, start: usize, len: usize, answer: &mut [usize]) -> u32
     requires { ⌜ 2 ≤ length (now answer) ⌝ }
     ensures { λ r. ⌜ (r ≡ 0) × (now (answer .exit) ≡ over (partCells size start len) (now (answer .entry))) ⌝ }
 {
-    if start <= size {
-        if len <= size - start {
-            cells::put_two(start, len, answer);
-            return 0;
-        }
-    }
-    cells::put_two(0, 0, answer);
+    let part = handed_out(size, start, len);
+    cells::put_two(part.start, part.len, answer);
     0
+}
+
+// A part of so many bytes as it is handed out.
+fn handed_out(size: usize, start: usize, len: usize) -> Part
+    ensures { λ r. ⌜ (r .start ∷ r .len ∷ []) ≡ partCells size start len ⌝ }
+{
+    if size < start {
+        return Part { start: 0, len: 0 };
+    }
+    if size - start < len {
+        return Part { start: 0, len: 0 };
+    }
+    Part { start, len }
 }

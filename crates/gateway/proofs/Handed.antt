@@ -1,0 +1,39 @@
+-- Laws of a part and of an entry of a table as they are handed out, and of an accepted request.
+-- Assumes nothing.
+use mathlib.Core.Path.{_≡_, refl}
+use mathlib.Core.List.{List, [], _∷_}
+use Prim.Native.Nat.{ℕ, _+_, _*_, _<_, _≤_}
+use native.Mathlib.Omega.{arith}
+use lib.ListN.{length, List·getD-eq-default}
+use borrow.Author.Tests.{le-leb, lt-leb}
+use Rattle.wire.specs.Over.{over}
+use Rattle.request.specs.Request.{toldRequest}
+use Rattle.request.specs.declared.Request.{Request}
+use Rattle.request.specs.declared.Request.the-variants.{KeyExchange, FixedKey, Support}
+use Rattle.gateway.specs.Cells.{partCells, entryCells}
+use Rattle.gateway.specs.Read.{requestNumber}
+
+-- ---- a part
+
+pub part-inside : (n start len : ℕ) → start + len ≤ n → (start ∷ len ∷ []) ≡ partCells n start len
+part-inside n start len h = rw (le-leb (start + len) n h)
+
+pub part-outside : (n start len : ℕ) → n < start + len → (0 ∷ 0 ∷ []) ≡ partCells n start len
+part-outside n start len h = rw (lt-leb (start + len) n h)
+
+-- ---- an entry
+
+-- an entry past the table's end counts as 0 and 0
+pub entry-past : (n : ℕ) (table : List ℕ) (i : ℕ) (lent : List ℕ) → length table ≤ 2 * i → over (partCells n 0 0) lent ≡ over (entryCells n table i) lent
+entry-past n table i lent h =
+    let p = List·getD-eq-default table 0 {n = 2 * i} h in
+    let q = List·getD-eq-default table 0 {n = 2 * i + 1} (omega arith) in
+    rw (p, q)
+
+-- ---- a request
+
+-- an accepted request has no number of a refusal
+pub accepted-number : (x : Request) → 0 ≡ requestNumber (toldRequest x)
+accepted-number (KeyExchange p a n) = refl
+accepted-number (FixedKey u c s a p k) = refl
+accepted-number (Support u p a k) = refl

@@ -1,0 +1,31 @@
+-- `gateway::writing::ntske_request_length` meets its contract: what the library's call answered is given.
+-- Assumes nothing.
+use borrow.Author.Needs.{needs}
+use Rattle.gateway.proofs.Counting.{no-length, counted}
+use Rattle.gateway.proofs.writing.ntske_request_length.Statement.{statement}
+use Rattle.gateway.proofs.writing.ntske_request_length.Tie as tie
+
+returns : tie.Need-returns
+returns c = no-length _ _ _ (c .if1 .taken)
+
+request-length-requires : tie.Need-request-length-requires
+request-length-requires c κs = search needs
+
+put-count-requires : tie.Need-put-count-requires
+put-count-requires c κs = search needs
+
+same-length : tie.Need-same-length
+same-length c = search needs
+
+returns-2 : tie.Need-returns-2
+returns-2 c = counted (c .before .before .before .before .before .if1 .left) _ (c .before .before .before .before .request-length .ensures) (c .before .before .put-count .ensures)
+
+pub ntske-request-length-spec : {M : Type 1} → statement M
+ntske-request-length-spec =
+    tie.close
+    (tie.spec
+    returns
+    request-length-requires
+    put-count-requires
+    same-length
+    returns-2)
