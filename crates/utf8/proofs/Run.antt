@@ -10,7 +10,7 @@ use borrow.Author.Tests.{le-leb}
 use lib.ListN.{length, getD, drop, length-drop, drop-of-length-le}
 use lib.Seq.{drop-cons, drop-drop}
 use Rattle.utf8.specs.Utf8.{rows, fits, charSize, octets, wellFormed}
-use Rattle.utf8.specs.Lead.{sizeAt, Passed}
+use Rattle.utf8.specs.Lead.{leadSize, second, sizeOf, sizeAt, Passed}
 use Rattle.utf8.proofs.Rows.{same-size}
 use Rattle.utf8.proofs.Tests.{never, on, and-right}
 
@@ -70,3 +70,16 @@ passed-none s at = record { onward = le-refl at; inside = λ h. h; same = refl }
 
 pub passed-more : {s : List ℕ} {at i : ℕ} → Passed s at i → i < length s → getD s i 0 ≤ 0x7F → Passed s at (i + 1)
 passed-more {s} {at} {i} p h l = record { onward = omega arith; inside = λ k. omega arith; same = at-ascii s i h l ∙ p .same }
+
+-- a sequence of two bytes: its lead byte and its second alone say so
+pub at-pair : (s : List ℕ) (at : ℕ) → leadSize (getD s at 0) ≡ 2 → second (getD s at 0) (getD s (at + 1) 0) ≡ true → 2 ≡ sizeAt s at
+unfolding sizeAt sizeOf
+at-pair s at e q = rw (e, q) refl
+
+pub passed-pair : {s : List ℕ} {at i : ℕ} → Passed s at i → i < length s → leadSize (getD s i 0) ≡ 2 → second (getD s i 0) (getD s (i + 1) 0) ≡ true → Passed s at (i + 2)
+passed-pair {s} {at} {i} p h e q =
+    record {
+      onward = omega (arith, p .onward);
+      inside = λ k. at-inside s i h 2 (at-pair s i e q);
+      same = at-some s i h 2 (at-pair s i e q) (λ z. omega arith) ∙ p .same;
+    }

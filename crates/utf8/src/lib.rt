@@ -1,5 +1,6 @@
 // A checker of UTF-8, after RFC 3629, section 4. There is no limit on its input.
 ghost use mathlib.Core.Path.{_≡_};
+ghost use mathlib.Core.Bool.{true};
 ghost use Prim.Native.Nat.{_<_};
 ghost use lib.ListN.{length};
 ghost use Rattle.utf8.specs.Utf8.{tail, wellFormed};
@@ -93,17 +94,56 @@ fn after_ascii(s: &[u8], at: usize) -> usize
     i
 }
 
+// Whether all of the bytes are ASCII, told by one pass without a way out of it, which takes many bytes at a time.
+fn is_ascii(s: &[u8]) -> bool
+    ensures { λ r. ⌜ (r ≡ true → wellFormed (now (s .entry)) ≡ true) ⌝ }
+{
+    let mut all = true;
+    let mut i = 0;
+    while i < s.len() {
+        if s[i] > 0x7F {
+            all = false;
+        }
+        i += 1;
+    }
+    all
+}
+
+// The first place from `at` on, two bytes a step, where no sequence of two bytes is.
+fn after_pairs(s: &[u8], at: usize) -> usize
+    ensures { λ r. ⌜ Passed (now (s .entry)) at r ⌝ }
+{
+    let mut i = at;
+    while i < s.len() {
+        if s.len() - i < 2 {
+            return i;
+        }
+        if lead_size(s[i]) != 2 {
+            return i;
+        }
+        let next = i + 1;
+        if !is_second(s[i], s[next]) {
+            return i;
+        }
+        i += 2;
+    }
+    i
+}
+
 // Whether all of the bytes are UTF-8.
 pub fn is_utf8(s: &[u8]) -> bool
     ensures { λ r. ⌜ r ≡ wellFormed (now (s .entry)) ⌝ }
 {
+    if is_ascii(s) {
+        return true;
+    }
     let mut at = after_ascii(s, 0);
     while at < s.len() {
         let n = size_at(s, at);
         if n == 0 {
             return false;
         }
-        at = after_ascii(s, at + n);
+        at = after_ascii(s, after_pairs(s, at + n));
     }
     true
 }

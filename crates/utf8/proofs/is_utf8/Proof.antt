@@ -1,5 +1,5 @@
 -- `utf8::is_utf8` meets its contract. The loop's invariant: the answer from the place reached is the whole answer. A turn
--- passes one character and the ASCII bytes after it. The measure is what is left of the length.
+-- passes one character, and the pairs and then the ASCII bytes after it. The measure is what is left of the length.
 -- Assumes nothing.
 use borrow.Author.Needs.{needs}
 use mathlib.Core.Path.{_≡_, sym, _∙_}
@@ -17,6 +17,12 @@ Inv-loop s at₀ at = wellFormed (drop at s) ≡ wellFormed s
 abbrev μ-loop : tie.MeasureT-loop
 μ-loop s at₀ at = length s - at
 
+is-ascii-requires : tie.Need-is-ascii-requires Inv-loop μ-loop
+is-ascii-requires c κs = search needs
+
+returns : tie.Need-returns Inv-loop μ-loop
+returns c = sym (c .before .is-ascii .ensures (c .if1 .taken))
+
 after-ascii-requires : tie.Need-after-ascii-requires Inv-loop μ-loop
 after-ascii-requires c κs = search needs
 
@@ -26,13 +32,16 @@ loop-holds c = c .after-ascii .ensures .same
 size-at-requires : tie.Need-size-at-requires Inv-loop μ-loop
 size-at-requires c κs = search needs
 
-returns : tie.Need-returns Inv-loop μ-loop
-returns c =
-    sym (at-none _ _ (c .before .before .loop-test .taken) (sym (c .before .size-at .ensures) ∙ c .if1 .taken))
+returns-2 : tie.Need-returns-2 Inv-loop μ-loop
+returns-2 c =
+    sym (at-none _ _ (c .before .before .loop-test .taken) (sym (c .before .size-at .ensures) ∙ c .if2 .taken))
     ∙ c .before .before .before .loop .inv
 
-add-after-ascii : tie.Need-add-after-ascii Inv-loop μ-loop
-add-after-ascii c = omega (arith, at-inside _ _ (c .before .before .loop-test .taken) _ (c .before .size-at .ensures))
+add-after-pairs : tie.Need-add-after-pairs Inv-loop μ-loop
+add-after-pairs c = omega (arith, at-inside _ _ (c .before .before .loop-test .taken) _ (c .before .size-at .ensures))
+
+after-pairs-requires : tie.Need-after-pairs-requires Inv-loop μ-loop
+after-pairs-requires c κs = search needs
 
 after-ascii-requires-2 : tie.Need-after-ascii-requires-2 Inv-loop μ-loop
 after-ascii-requires-2 c κs = search needs
@@ -43,11 +52,18 @@ loop-less c = search needs
 loop-again : tie.Need-loop-again Inv-loop μ-loop
 loop-again c =
     c .after-ascii2 .ensures .same
-    ∙ at-some _ _ (c .before .before .before .loop-test .taken) _ (c .before .before .size-at .ensures) (c .before .if1 .left)
-    ∙ c .before .before .before .before .loop .inv
+    ∙ c .before .after-pairs .ensures .same
+    ∙ at-some
+    _
+    _
+    (c .before .before .before .before .loop-test .taken)
+    _
+    (c .before .before .before .size-at .ensures)
+    (c .before .before .if2 .left)
+    ∙ c .before .before .before .before .before .loop .inv
 
-returns-2 : tie.Need-returns-2 Inv-loop μ-loop
-returns-2 c = sym (at-end _ _ (c .loop-test .left)) ∙ c .before .loop .inv
+returns-3 : tie.Need-returns-3 Inv-loop μ-loop
+returns-3 c = sym (at-end _ _ (c .loop-test .left)) ∙ c .before .loop .inv
 
 pub is-utf8-spec : {M : Type 1} → statement M
 is-utf8-spec =
@@ -55,12 +71,15 @@ is-utf8-spec =
     (tie.spec
     Inv-loop
     μ-loop
+    is-ascii-requires
+    returns
     after-ascii-requires
     loop-holds
     size-at-requires
-    returns
-    add-after-ascii
+    returns-2
+    add-after-pairs
+    after-pairs-requires
     after-ascii-requires-2
     loop-less
     loop-again
-    returns-2)
+    returns-3)
