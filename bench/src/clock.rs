@@ -1,0 +1,51 @@
+//! Timing: batches long enough for the clock, the two sides in turn, and the least time of each.
+
+use std::fmt::Debug;
+use std::time::{Duration, Instant};
+
+/// How long a batch takes at least, and how many batches there are of each side.
+const BATCH: Duration = Duration::from_micros(500);
+const BATCHES: usize = 600;
+
+/// Ends the run where the two sides' answers differ.
+pub fn same<T: PartialEq + Debug>(name: &str, ours: T, crates: T) {
+    if ours != crates {
+        let mut told = format!("bench {name}: the answers differ: ours {ours:?} crate {crates:?}");
+        told.truncate(2000);
+        println!("{told}");
+        std::process::exit(1);
+    }
+}
+
+/// Prints a line: what each side takes, the bar, and the crate's time over ours. Where the program has arguments, only for
+/// the rows that they name.
+pub fn row(name: &str, bar: f64, mut ours: impl FnMut(), mut crates: impl FnMut()) {
+    if std::env::args().count() > 1 && std::env::args().skip(1).all(|asked| asked != name) {
+        return;
+    }
+    let (our_calls, crate_calls) = (calls(&mut ours), calls(&mut crates));
+    let (mut our_least, mut crate_least) = (f64::INFINITY, f64::INFINITY);
+    for _ in 0..BATCHES {
+        our_least = our_least.min(batch(our_calls, &mut ours));
+        crate_least = crate_least.min(batch(crate_calls, &mut crates));
+    }
+    println!("bench {name} ours {our_least:.1} crate {crate_least:.1} bar {bar} ratio {:.2}", crate_least / our_least);
+}
+
+/// How many calls a batch has.
+fn calls(call: &mut impl FnMut()) -> u32 {
+    let mut calls = 1;
+    while batch(calls, call) * f64::from(calls) < BATCH.as_nanos() as f64 {
+        calls *= 2;
+    }
+    calls
+}
+
+/// The nanoseconds of a call in a batch.
+fn batch(calls: u32, call: &mut impl FnMut()) -> f64 {
+    let began = Instant::now();
+    for _ in 0..calls {
+        call();
+    }
+    began.elapsed().as_nanos() as f64 / f64::from(calls)
+}

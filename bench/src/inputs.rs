@@ -1,0 +1,69 @@
+//! What is read and written.
+
+pub const MOST_NAMES: usize = 2000;
+pub const COOKIES: usize = 8;
+const COOKIE: usize = 100;
+const LISTS: [u8; 12] = [0x80, 1, 0, 2, 0, 0, 0x80, 4, 0, 2, 0, 15];
+const END: [u8; 4] = [0x80, 0, 0, 0];
+
+/// A key-exchange request that denies so many names of 28 bytes; without a name it is document 01's sixteen bytes.
+pub fn request(names: usize) -> Vec<u8> {
+    let mut message = LISTS.to_vec();
+    for index in 0..names {
+        message.extend([0, 13, 0, 28]);
+        message.extend(format!("server-{index:09}.ntp.example").bytes());
+    }
+    message.extend(END);
+    assert_eq!(message.len(), 16 + 32 * names);
+    message
+}
+
+pub fn cookie(index: usize) -> Vec<u8> {
+    (0..COOKIE).map(|place| (index * 31 + place * 7) as u8).collect()
+}
+
+/// A reply with eight cookies.
+pub fn reply() -> Vec<u8> {
+    let cookies = (0..COOKIES).flat_map(|index| [vec![0, 5, 0, COOKIE as u8], cookie(index)].concat());
+    LISTS.into_iter().chain(cookies).chain(END).collect()
+}
+
+/// The tray of those cookies.
+pub fn tray() -> Vec<u8> {
+    (0..COOKIES).flat_map(|index| [vec![1, 0, COOKIE as u8], cookie(index)].concat()).collect()
+}
+
+/// A cookie record of 1,000 bytes.
+pub fn record() -> Vec<u8> {
+    [0, 5, 3, 232].into_iter().chain((0..1000).map(|place| (place * 13) as u8)).collect()
+}
+
+pub fn ascii() -> Vec<u8> {
+    (0..65535).map(|place| b' ' + (place % 95) as u8).collect()
+}
+
+/// Characters of two bytes each.
+pub fn two_byte() -> Vec<u8> {
+    ('\u{0400}'..='\u{04ff}').cycle().take(32767).collect::<String>().into_bytes()
+}
+
+/// A message, and it cut at some places.
+pub fn cuts(message: &[u8]) -> Vec<&[u8]> {
+    let step = message.len() / 200 + 1;
+    (0..message.len()).step_by(step).chain([message.len()]).map(|end| &message[..end]).collect()
+}
+
+/// A text, and it with a byte changed at some places.
+pub fn damaged(text: &[u8]) -> Vec<Vec<u8>> {
+    let places = (0..40).chain((40..text.len()).step_by(997)).chain(text.len() - 40..text.len());
+    let changed = places.flat_map(|place| [0x41, 0x80, 0xc3, 0xe2, 0xff].map(|byte| (place, byte)));
+    let mut all: Vec<Vec<u8>> = changed
+        .map(|(place, byte)| {
+            let mut copy = text.to_vec();
+            copy[place] = byte;
+            copy
+        })
+        .collect();
+    all.push(text.to_vec());
+    all
+}

@@ -1,0 +1,136 @@
+//! The library beside the crate: both answer the same bytes in one process, and each is timed.
+
+mod clock;
+mod inputs;
+mod ours;
+#[path = "../../oracle/src/packet.rs"]
+mod packet;
+#[path = "../../oracle/src/tls_utils.rs"]
+mod tls_utils;
+
+/// The stand-in for the crate's module `nts`. What looks into the crate's values is a child of it.
+#[allow(dead_code, private_interfaces)]
+mod nts {
+    use crate::tls_utils;
+
+    include!(concat!(env!("OUT_DIR"), "/nts.rs"));
+
+    pub mod theirs;
+}
+
+use clock::row;
+use nts::theirs;
+use std::hint::black_box;
+
+fn main() {
+    println!("# the least time of many batches, in nanoseconds a call; nothing that is lent is cleared between calls");
+    requests();
+    replies();
+    records();
+    names();
+}
+
+/// The sixteen bytes, then 150 and 2,000 denied names of 28 bytes; the last two are read by the copy with the raised limit.
+fn requests() {
+    let mut table = vec![0; 2 * inputs::MOST_NAMES];
+    let mut answer = [0; ours::CELLS];
+    for (name, count, bar) in [("request16", 0, 5.0), ("request150", 150, 8.0), ("request2000", 2000, 8.0)] {
+        let message = inputs::request(count);
+        for cut in inputs::cuts(&message) {
+            clock::same(name, ours::request(cut, &mut table), theirs::request(cut, count != 0));
+        }
+        row(
+            name,
+            bar,
+            || {
+                black_box(ours::read_request(black_box(&message), &mut table, &mut answer));
+            },
+            || {
+                black_box(theirs::read_request(black_box(&message), count != 0));
+            },
+        );
+    }
+}
+
+/// A reply with eight cookies of 100 bytes, read and written.
+fn replies() {
+    let message = inputs::reply();
+    let mut table = [0; 2 * inputs::COOKIES];
+    let mut answer = [0; ours::CELLS];
+    for cut in inputs::cuts(&message) {
+        clock::same("reply8", ours::reply(cut, &mut table), theirs::reply(cut));
+    }
+    row(
+        "reply8",
+        8.0,
+        || {
+            black_box(ours::read_reply(black_box(&message), &mut table, &mut answer));
+        },
+        || {
+            let _ = black_box(theirs::read_reply(black_box(&message)));
+        },
+    );
+
+    let (tray, cookies) = (inputs::tray(), theirs::cookies());
+    let (mut mine, mut crates) = (vec![0; message.len()], Vec::new());
+    let (plan, mut written) = (ours::plan(&tray), [0]);
+    let refusal = ours::write_reply(&plan, &tray, &mut mine, &mut written);
+    theirs::write_reply(&cookies, &mut crates);
+    clock::same("write8", (refusal, written), (0, [message.len()]));
+    clock::same("write8", [&mine, &mine], [&crates, &message]);
+    row(
+        "write8",
+        3.0,
+        || {
+            black_box(ours::write_reply(black_box(&plan), black_box(&tray), black_box(&mut mine), &mut written));
+        },
+        || {
+            crates.clear();
+            theirs::write_reply(black_box(&cookies), &mut crates);
+            black_box(&mut crates);
+        },
+    );
+}
+
+/// A cookie record of 1,000 bytes, read and written.
+fn records() {
+    let message = inputs::record();
+    let mut answer = [0; ours::CELLS];
+    let (mut mine, mut crates) = (vec![0; message.len()], Vec::new());
+    let mut written = [0];
+    let refusal = ours::copy_record(&message, &mut mine, &mut answer, &mut written);
+    theirs::copy_record(&message, &mut crates);
+    clock::same("record1000", (refusal, written), (0, [message.len()]));
+    clock::same("record1000", [&mine, &mine], [&crates, &message]);
+    row(
+        "record1000",
+        3.0,
+        || {
+            black_box(ours::copy_record(black_box(&message), black_box(&mut mine), &mut answer, &mut written));
+        },
+        || {
+            crates.clear();
+            theirs::copy_record(black_box(&message), &mut crates);
+            black_box(&mut crates);
+        },
+    );
+}
+
+/// The longest name of ASCII, and of two-byte characters, against the standard library's checker.
+fn names() {
+    for (name, text, bar) in [("utf8ascii", inputs::ascii(), 0.5), ("utf8mixed", inputs::two_byte(), 1.0)] {
+        for damaged in inputs::damaged(&text) {
+            clock::same(name, ours::is_utf8(&damaged), std::str::from_utf8(&damaged).is_ok());
+        }
+        row(
+            name,
+            bar,
+            || {
+                black_box(ours::is_utf8(black_box(&text)));
+            },
+            || {
+                black_box(std::str::from_utf8(black_box(&text)).is_ok());
+            },
+        );
+    }
+}
