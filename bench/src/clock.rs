@@ -32,6 +32,12 @@ pub fn row(name: &str, bar: f64, mut ours: impl FnMut(), mut crates: impl FnMut(
     println!("bench {name} ours {our_least:.1} crate {crate_least:.1} bar {bar} ratio {:.2}", crate_least / our_least);
 }
 
+/// The least time of one side alone.
+pub fn least(mut call: impl FnMut()) -> f64 {
+    let calls = calls(&mut call);
+    (0..BATCHES).map(|_| batch(calls, &mut call)).fold(f64::INFINITY, f64::min)
+}
+
 /// How many calls a batch has.
 fn calls(call: &mut impl FnMut()) -> u32 {
     let mut calls = 1;

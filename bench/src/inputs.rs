@@ -35,7 +35,13 @@ pub fn tray() -> Vec<u8> {
 
 /// A cookie record of 1,000 bytes.
 pub fn record() -> Vec<u8> {
-    [0, 5, 3, 232].into_iter().chain((0..1000).map(|place| (place * 13) as u8)).collect()
+    cookie_record(1000)
+}
+
+/// One of that many.
+pub fn cookie_record(size: u16) -> Vec<u8> {
+    let [high, low] = size.to_be_bytes();
+    [0, 5, high, low].into_iter().chain((0..size).map(|place| place.wrapping_mul(13) as u8)).collect()
 }
 
 pub fn ascii() -> Vec<u8> {

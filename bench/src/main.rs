@@ -1,6 +1,7 @@
 //! The library beside the crate: both answer the same bytes in one process, and each is timed.
 
 mod clock;
+mod growth;
 mod inputs;
 mod ours;
 #[path = "../../oracle/src/packet.rs"]
@@ -23,6 +24,9 @@ use nts::theirs;
 use std::hint::black_box;
 
 fn main() {
+    if std::env::args().nth(1).is_some_and(|asked| asked == "growth") {
+        return growth::print();
+    }
     println!("# the least time of many batches, in nanoseconds a call; nothing that is lent is cleared between calls");
     requests();
     replies();
