@@ -110,7 +110,7 @@ impl fmt::Display for Refused {
             Refused::UnrecognizedCriticalRecord => f.write_str("an unknown record has its critical bit set"),
             Refused::Invalid => f.write_str("the set of records is not allowed"),
             Refused::AeadNotSupported(algorithm) => {
-                write!(f, "a fixed key's algorithm is not 15 or 17, but {}", algorithm.0)
+                write!(f, "a fixed key's algorithm is not 15 or 17, code {}", algorithm.0)
             }
             Refused::IncorrectSizedKey => f.write_str("a key half has the wrong length"),
             Refused::TableFull => f.write_str("more names or cookies than the table or the plan holds"),
