@@ -4,7 +4,18 @@ use crate::writing::{count, front};
 use crate::{raw, AeadAlgorithm, Name, NextProtocol, Refused};
 use core::fmt;
 
-/// A buffer for the cookies of a plan, to which it belongs from then on.
+/// A buffer for the cookies of a plan, to which it belongs from then on: nothing else can be written into it.
+///
+/// ```compile_fail,E0506
+/// # use ntske::{AeadAlgorithm, NextProtocol, Plan, Refused, Tray};
+/// # fn host() -> Result<(), Refused> {
+/// let mut buffer = [0; 64];
+/// let mut plan = Plan::new(NextProtocol(0), AeadAlgorithm(15), Tray::new(&mut buffer));
+/// buffer[0] = 1;
+/// plan.append(b"a cookie")?;
+/// # Ok(())
+/// # }
+/// ```
 #[derive(Debug)]
 pub struct Tray<'b>(&'b mut [u8]);
 

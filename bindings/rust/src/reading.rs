@@ -78,6 +78,17 @@ impl<'m> Message<'m> {
 
     /// Reads a request as if the message were cut after `limit` bytes. Two cells of the table are needed for each name that is denied.
     /// A refusal, 1 to 7, leaves the table as it is.
+    ///
+    /// The table cannot be lent again, nor the message be overwritten, while a name of it is in use:
+    ///
+    /// ```compile_fail,E0499
+    /// # use ntske::{Message, Request};
+    /// # fn host(one: Message<'_>, other: Message<'_>, table: &mut [u16]) {
+    /// let first = one.request(65_535, table);
+    /// let second = other.request(65_535, table);
+    /// println!("{first:?}");
+    /// # }
+    /// ```
     pub fn request<'t>(self, limit: u16, table: &'t mut [u16]) -> Result<Request<'m, 't>, Refusal> {
         let mut answer = [0; 10];
         let number = raw::read_request(self.0, limit, table, &mut answer);
@@ -154,6 +165,15 @@ pub struct Chosen {
 }
 
 /// Chooses of the client's lists the first number that the server's own list holds. Refusals: 9 for a client's list of an odd length, 13, 14.
+///
+/// Lists cannot change places:
+///
+/// ```compile_fail,E0308
+/// # use ntske::{choose, AeadAlgorithm, Chosen, List, NextProtocol, Refused};
+/// # fn host(protocols: List<'_, NextProtocol>, algorithms: List<'_, AeadAlgorithm>) -> Result<Chosen, Refused> {
+/// choose(algorithms, protocols, &[NextProtocol(0)], &[AeadAlgorithm(15)])
+/// # }
+/// ```
 pub fn choose(
     protocols: List<'_, NextProtocol>,
     algorithms: List<'_, AeadAlgorithm>,
