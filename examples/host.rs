@@ -4,8 +4,9 @@
 //!     ./archive && cargo run --manifest-path bindings/rust/Cargo.toml --example host
 
 use ntske::{
-    choose, write_error, write_no_algorithm, write_no_protocol, write_request, AeadAlgorithm, Denied, ErrorCode, List,
-    Message, Name, Names, NextProtocol, Plan, Record, Refusal, Refused, Request, Tray,
+    choose, write_error, write_no_algorithm, write_no_protocol, write_request, AeadAlgorithm,
+    Denied, ErrorCode, List, Message, Name, Names, NextProtocol, Plan, Record, Refusal, Refused,
+    Request, Tray,
 };
 use std::io::{Read, Write};
 use std::net::Shutdown;
@@ -27,7 +28,13 @@ fn receive<'m>(
     loop {
         let got = from.read(&mut message[len..])?;
         len += got;
-        let short = matches!(read(&message[..len]), Some(Refusal { why: Refused::UnexpectedEof, .. }));
+        let short = matches!(
+            read(&message[..len]),
+            Some(Refusal {
+                why: Refused::UnexpectedEof,
+                ..
+            })
+        );
         if got == 0 || !short {
             return Ok(Message::new(&message[..len]));
         }
@@ -44,13 +51,23 @@ fn answer_request<'o>(
     let server = Name::new("time.example");
     let mut tray = [0; 64];
 
-    print!("server: protocols {}, algorithms {}, denied {}", protocols.len(), algorithms.len(), denied.len());
+    print!(
+        "server: protocols {}, algorithms {}, denied {}",
+        protocols.len(),
+        algorithms.len(),
+        denied.len()
+    );
     for name in denied {
         print!(" {name}");
     }
     println!();
 
-    let chosen = match choose(protocols, algorithms, &[NextProtocol::NTPV4], &[AeadAlgorithm::AES_SIV_CMAC_256]) {
+    let chosen = match choose(
+        protocols,
+        algorithms,
+        &[NextProtocol::NTPV4],
+        &[AeadAlgorithm::AES_SIV_CMAC_256],
+    ) {
         Ok(chosen) => chosen,
         Err(why) => {
             println!("server: refused {}: {why}", why.number());
@@ -61,22 +78,31 @@ fn answer_request<'o>(
         }
     };
     let mut plan = Plan::new(chosen.protocol, chosen.algorithm, Tray::new(&mut tray));
-    plan.set_name_length(server.bytes().len().try_into()?).set_port(4123);
+    plan.set_name_length(server.bytes().len().try_into()?)
+        .set_port(4123);
     plan.append(b"first cookie")?.append(b"second cookie")?;
     let reply = plan.write(Some(server), out)?;
     let (protocol, algorithm) = (chosen.protocol.0, chosen.algorithm.0);
-    println!("server: protocol {protocol}, algorithm {algorithm} and two cookies in {} bytes", reply.len());
+    println!(
+        "server: protocol {protocol}, algorithm {algorithm} and two cookies in {} bytes",
+        reply.len()
+    );
     Ok(reply)
 }
 
 fn server(stream: &mut UnixStream) -> Outcome<()> {
     let (mut buffer, mut out, mut table) = ([0; SIZE], [0; SIZE], [0; 2 * ENTRIES]);
-    let message =
-        receive(stream, &mut buffer, |bytes| Message::new(bytes).request(LIMIT, &mut [0; 2 * ENTRIES]).err())?;
+    let message = receive(stream, &mut buffer, |bytes| {
+        Message::new(bytes)
+            .request(LIMIT, &mut [0; 2 * ENTRIES])
+            .err()
+    })?;
     let reply = match message.request(LIMIT, &mut table) {
-        Ok(Request::KeyExchange { protocols, algorithms, denied }) => {
-            answer_request(protocols, algorithms, denied, &mut out)?
-        }
+        Ok(Request::KeyExchange {
+            protocols,
+            algorithms,
+            denied,
+        }) => answer_request(protocols, algorithms, denied, &mut out)?,
         Ok(_) => {
             println!("server: no key exchange");
             write_error(ErrorCode::BAD_REQUEST, &mut out)?
@@ -96,7 +122,11 @@ fn server(stream: &mut UnixStream) -> Outcome<()> {
 
 fn client(stream: &mut UnixStream) -> Outcome<()> {
     let (mut buffer, mut table) = ([0; SIZE], [0; 2 * ENTRIES]);
-    let message = receive(stream, &mut buffer, |bytes| Message::new(bytes).reply(LIMIT, &mut [0; 2 * ENTRIES]).err())?;
+    let message = receive(stream, &mut buffer, |bytes| {
+        Message::new(bytes)
+            .reply(LIMIT, &mut [0; 2 * ENTRIES])
+            .err()
+    })?;
     let reply = match message.reply(LIMIT, &mut table) {
         Ok(reply) => reply,
         Err(refusal) => {
@@ -104,7 +134,10 @@ fn client(stream: &mut UnixStream) -> Outcome<()> {
             return Ok(());
         }
     };
-    print!("client: protocol {}, algorithm {}", reply.protocol.0, reply.algorithm.0);
+    print!(
+        "client: protocol {}, algorithm {}",
+        reply.protocol.0, reply.algorithm.0
+    );
     if let Some(name) = reply.server {
         print!(", server {name}");
     }
@@ -114,7 +147,11 @@ fn client(stream: &mut UnixStream) -> Outcome<()> {
     println!();
     for cookie in reply.cookies {
         let bytes = cookie.bytes();
-        println!("client: a cookie of {} bytes: {}", bytes.len(), String::from_utf8_lossy(bytes));
+        println!(
+            "client: a cookie of {} bytes: {}",
+            bytes.len(),
+            String::from_utf8_lossy(bytes)
+        );
     }
     Ok(())
 }
@@ -132,7 +169,10 @@ fn exchange(title: &str, request: &[u8]) -> Outcome<()> {
 
 fn main() -> Outcome<()> {
     let protocols = [NextProtocol::NTPV4];
-    let algorithms = [AeadAlgorithm::AES_SIV_CMAC_512, AeadAlgorithm::AES_SIV_CMAC_256];
+    let algorithms = [
+        AeadAlgorithm::AES_SIV_CMAC_512,
+        AeadAlgorithm::AES_SIV_CMAC_256,
+    ];
     let (mut out, mut buffer) = ([0; SIZE], [0; 64]);
     let nobody = Names::new(&mut []);
 
@@ -146,17 +186,36 @@ fn main() -> Outcome<()> {
     let request = write_request(&protocols, &algorithms[..1], &nobody, &mut out)?;
     exchange("no algorithm in common", request)?;
 
-    let first = Record::Unknown { kind: 16385, critical: true, data: &[] }.write(&mut out)?.len();
+    let first = Record::Unknown {
+        kind: 16385,
+        critical: true,
+        data: &[],
+    }
+    .write(&mut out)?
+    .len();
     let rest = write_request(&protocols, &algorithms, &nobody, &mut out[first..])?.len();
-    exchange("an unknown record with its critical bit set", &out[..first + rest])?;
+    exchange(
+        "an unknown record with its critical bit set",
+        &out[..first + rest],
+    )?;
 
     // what the writers refuse
-    let plan = Plan::new(NextProtocol::NTPV4, AeadAlgorithm::AES_SIV_CMAC_256, Tray::new(&mut []));
+    let plan = Plan::new(
+        NextProtocol::NTPV4,
+        AeadAlgorithm::AES_SIV_CMAC_256,
+        Tray::new(&mut []),
+    );
     if let Err(why) = plan.write(None, &mut out) {
-        println!("== a reply without a cookie\nserver: refused {}: {why}", why.number());
+        println!(
+            "== a reply without a cookie\nserver: refused {}: {why}",
+            why.number()
+        );
     }
     if let Err(why) = write_request(&protocols, &algorithms, &nobody, &mut out[..17]) {
-        println!("== a request of 18 bytes into 17\nclient: refused {}: {why}", why.number());
+        println!(
+            "== a request of 18 bytes into 17\nclient: refused {}: {why}",
+            why.number()
+        );
     }
     Ok(())
 }
