@@ -2,7 +2,7 @@
  * The key exchange of Network Time Security (RFC 8915) for a host in C. The functions are those of crates/gateway, which are proved to meet their
  * contracts; this header is not, and tests/abi holds it against the source.
  *
- * Every call ends with an answer for every value of its arguments, and returns 0 or the number of a refusal:
+ * Every call ends with an answer for every value of its arguments, and returns 0 or the number of a refusal; ntske_is_utf8 alone has none, and returns its answer:
  *
  *    1  bytes are missing                                 9  the value is no record, plan or tray
  *    2  a body is ill-formed                             10  the output, or the cells for the answer, are too short
@@ -185,9 +185,9 @@ uint32_t ntske_request_length(const uint16_t *protocols, size_t protocols_len, c
 
 /*
  * One record, and its exact length. Seven cells tell it, as ntske_read_record gives them: kind, the critical bit of an unknown kind, a number, start and length of the body or of the
- * first key, start and length of the second key; what a kind does not have is not looked at. Parts lie in `source`.
- * Refusals: 9 for fewer cells, a kind or number above 65,535, a bit that is neither 0 nor 1, and for what is no record (a part outside the source, a list of an odd length, a name
- * that is not UTF-8, keys of unequal length, an unknown kind's number that is known); then 8; then, of the writer, 10.
+ * first key, start and length of the second key. Parts lie in `source`; parts that a kind does not have are not looked at.
+ * Refusals: 9 for fewer cells, a kind above 32,767, and, whatever the kind is, a bit that is neither 0 nor 1 and a number above 65,535; for what is no record (a part outside the
+ * source, a list of an odd length, pairs whose length is no multiple of 4, a name that is not UTF-8, keys of unequal length); then 8; then, of the writer, 10.
  */
 uint32_t ntske_write_record(const size_t *item, size_t item_len, const uint8_t *source, size_t source_len, uint8_t *out, size_t out_len, size_t *written, size_t written_len);
 uint32_t ntske_record_length(const size_t *item, size_t item_len, const uint8_t *source, size_t source_len, size_t *length, size_t length_len);

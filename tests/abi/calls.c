@@ -537,7 +537,9 @@ static void reading(void)
     entry(four, WORDS(1, 2, 2, 2), 2, CELLS(0, 0));
     entry(four, WORDS(1, 2, 2, 2), SIZE_MAX, CELLS(0, 0));
     entry(four, WORDS(1, 2, 2, 2), SIZE_MAX / 2 + 1, CELLS(0, 0));
+    entry(four, WORDS(1, 2, 3), 1, CELLS(3, 0));
     entry(four, WORDS(3, 2), 0, CELLS(0, 0));
+    entry(four, WORDS(4, 0), 0, CELLS(4, 0));
     entry(four, WORDS(65535, 65535), 0, CELLS(0, 0));
     entry(four, NO_WORDS, 0, CELLS(0, 0));
     entry(NO_BYTES, NO_WORDS, SIZE_MAX, CELLS(0, 0));
@@ -737,6 +739,7 @@ static void records(void)
     item("kind 32,768", CELLS(32768, 0, 0, 0, 0, 0, 0), four, 9, NO_BYTES);
     item("kind 65,536", CELLS(65536, 0, 0, 0, 0, 0, 0), four, 9, NO_BYTES);
     item("kind SIZE_MAX", CELLS(SIZE_MAX, 0, 0, 0, 0, 0, 0), four, 9, NO_BYTES);
+    item("kind 65,535", CELLS(65535, 1, 0, 0, 0, 0, 0), four, 9, NO_BYTES);
     item("a bit of 2", CELLS(11, 2, 0, 0, 0, 0, 0), four, 9, NO_BYTES);
     item("a bit of 2 where it does not count", CELLS(0, 2, 0, 0, 0, 0, 0), four, 9, NO_BYTES);
     item("a number of 65,536", CELLS(7, 0, 65536, 0, 0, 0, 0), four, 9, NO_BYTES);
