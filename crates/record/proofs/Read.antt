@@ -1,17 +1,18 @@
 -- What `readAt` is, from what the reader found on the way.
 -- Assumes nothing.
-use mathlib.Core.Path.{_≡_, sym, ap, _∙_}
-use mathlib.Core.Bool.{Bool}
+use mathlib.Core.Path.{_≡_, refl, sym, ap, _∙_}
+use mathlib.Core.Bool.{Bool, true, false, cond}
 use mathlib.Core.List.{List}
 use Prim.Native.Nat.{ℕ, _+_, _-_, _<_, _≤_}
 use native.Mathlib.Nat.{add-sub-cancel-left}
 use native.Mathlib.Omega.{arith}
 use borrow.Author.Tests.{lt-ltb, le-ltb, eq-eqb, ne-eqb}
 use lib.ListN.{length, take, drop, length-drop}
+use lib.Dec.{eqb}
 use lib.Seq.{take-all}
 use Rattle.wire.specs.Bytes.{numberAt}
 use Rattle.nts.specs.Refusal.{nothing}
-use Rattle.record.specs.Record.{kindOf, criticalOf, kind, critical, size, there, shapeOf, faultOf, fault, Seen, seenOf, read, refused, readFrom, readAt}
+use Rattle.record.specs.Record.{kindOf, criticalOf, kind, critical, size, there, shapeOf, faultOf, fault, Seen, seenOf, read, refused, readFrom, readAt, endOf}
 use Rattle.record.specs.declared.Shape.{Shape}
 
 -- all that follows a header is what is there of a body that is short
@@ -35,9 +36,27 @@ pub past-end : (s : List ℕ) (at : ℕ) → length s < at → refused (record {
 unfolding readAt readFrom fault
 past-end s at h = simp (lt-ltb (length (drop at s)) 4 (simp length-drop (omega arith)))
 
+-- .. so that no record ends
+pub end-past-end : (k : ℕ) (s : List ℕ) (at : ℕ) → length s < at → 0 ≡ endOf k (readAt s at)
+unfolding endOf
+end-past-end k s at h = ap (endOf k) (past-end s at h)
+
 pub no-header : (at : ℕ) (t : List ℕ) → length t < 4 → refused (record { number = 1; beside = nothing; place = at }) ≡ readFrom at t
 unfolding readFrom fault
 no-header at t h = simp (lt-ltb _ _ h)
+
+pub end-no-header : (k at : ℕ) (t : List ℕ) → length t < 4 → 0 ≡ endOf k (readFrom at t)
+unfolding endOf
+end-no-header k at t h = ap (endOf k) (no-header at t h)
+
+-- a record of another kind, whether it reads or not
+pub end-other : (k at : ℕ) (t : List ℕ) → (kindOf (numberAt t 0) ≡ k → ⊥) → 0 ≡ endOf k (readFrom at t)
+unfolding endOf readFrom seenOf kind
+end-other k at t h = go (eqb (fault t) 0)
+  where
+    go : (c : Bool) → 0 ≡ endOf k (cond c (read (seenOf (kind t) (critical t) (at + 4) (size t) (there t)) (at + 4 + size t)) (refused (record { number = fault t; beside = nothing; place = at })))
+    go true = simp (ne-eqb _ _ h)
+    go false = refl
 
 module _ (at : ℕ) (t : List ℕ) (w n k : ℕ) (l : Shape) (b : List ℕ) (f : ℕ) (here : 4 ≤ length t) (ew : w ≡ numberAt t 0) (en : n ≡ numberAt t 2)
     (ek : k ≡ kindOf w) (eb : b ≡ take n (drop 4 t)) (el : l ≡ shapeOf k) (ef : f ≡ faultOf l n b) where
@@ -48,3 +67,11 @@ module _ (at : ℕ) (t : List ℕ) (w n k : ℕ) (l : Shape) (b : List ℕ) (f :
   pub faultless : f ≡ 0 → (bit : Bool) (x : Seen) → bit ≡ criticalOf w → x ≡ seenOf k bit (at + 4) n b → read x (at + 4 + n) ≡ readFrom at t
   unfolding readFrom fault kind critical size there
   faultless z bit x e r = simp (le-ltb _ _ here, sym ew, sym en, sym ek, sym el, sym eb, sym ef, eq-eqb _ _ z, sym e, sym r)
+
+  pub ended : f ≡ 0 → at + 4 + n ≡ endOf k (readFrom at t)
+  unfolding endOf seenOf
+  ended z = simp (sym (faultless z (criticalOf w) (seenOf k (criticalOf w) (at + 4) n b) refl refl), eq-eqb k k refl)
+
+  pub not-ended : (f ≡ 0 → ⊥) → 0 ≡ endOf k (readFrom at t)
+  unfolding endOf
+  not-ended z = ap (endOf k) (faulty z)

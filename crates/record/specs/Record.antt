@@ -137,3 +137,8 @@ readFrom at s =
 -- the record at a place of a message; past its end nothing is there
 unfoldable pub readAt : List ℕ → ℕ → Told
 readAt s at = readFrom at (drop at s)
+
+-- of what a reader answers: the place after the record, if it was read and is of kind k; otherwise 0
+unfoldable pub endOf : ℕ → Told → ℕ
+endOf k (read x next) = cond (eqb (x .kind) k) next 0
+endOf k (refused r) = 0

@@ -14,7 +14,7 @@ ghost use mathlib.Core.Path.{_≡_};
 ghost use Prim.Native.Nat.{_+_, _/_, _<_, _≤_, _^_};
 ghost use lib.ListN.{length, take, drop};
 ghost use Rattle.wire.specs.Bytes.{partAt};
-ghost use Rattle.record.specs.Record.{kindOf, criticalOf, shapeOf, short, uneven, notNumber, notHalves, notUtf8, firstOf, notName, faultOf, seenOf, readAt};
+ghost use Rattle.record.specs.Record.{kindOf, criticalOf, shapeOf, short, uneven, notNumber, notHalves, notUtf8, firstOf, notName, faultOf, seenOf, readAt, endOf};
 ghost use Rattle.record.specs.Entry.{numberIn, pairIn};
 ghost use Rattle.record.specs.Told.{toldFault, toldRecord, toldParsed, toldNumber, toldProtocol, toldAlgorithm, toldPair};
 
@@ -198,6 +198,31 @@ impl Cursor {
         ensures { λ r. ⌜ toldParsed r ≡ readAt (now (message .entry)) (self .at) ⌝ }
     {
         NtsRecord::parse(message, self.at)
+    }
+}
+
+// The place after the record at a place, if it is of that kind and reads; otherwise 0. What `parse` says of it, without the record.
+pub fn end_of(kind: u16, message: &[u8], at: usize) -> usize
+    ensures { λ r. ⌜ r ≡ endOf kind (readAt (now (message .entry)) at) ⌝ }
+{
+    if message.len() < at {
+        return 0;
+    }
+    let rest = &message[at..];
+    if rest.len() < NtsRecord::HEADER {
+        return 0;
+    }
+    let found = kind_of(wire::number_at(rest, 0));
+    if found != kind {
+        return 0;
+    }
+    let size = wire::number_at(rest, 2) as usize;
+    let body = there(rest, size);
+    let fault = fault_of(shape_of(kind), size, body);
+    match fault {
+        Fault::None => at + NtsRecord::HEADER + size,
+        Fault::Short => 0,
+        Fault::IllFormed => 0,
     }
 }
 
