@@ -8,7 +8,7 @@ use native.Mathlib.Omega.{arith}
 use borrow.Author.Tests.{eqb-true, eqb-false}
 use lib.Dec.{eqb}
 use Rattle.nts.specs.Refusal.{Refused, nothing}
-use Rattle.record.specs.Record.{kind, critical, size, there, shapeOf, fault, Value, skipped, number, part, halves, unknown, valueOf, Seen, seenOf, Told, read, refused, readFrom}
+use Rattle.record.specs.Record.{kind, critical, size, there, shapeOf, fault, Value, skipped, number, part, halves, unknown, valueOf, Seen, seenOf, Told, read, refused, readFrom, endOf}
 use Rattle.record.specs.declared.Shape.{Shape}
 use Rattle.record.specs.declared.Shape.the-variants.{Skipped, Numbers, Number, Bytes, Name, Pairs, Halves, Unknown}
 
@@ -33,6 +33,17 @@ refused-was at t r e = go (eqb (fault t) 0) refl e
     go : (b : Bool) → eqb (fault t) 0 ≡ b → refused r ≡ cond b (read (seenOf (kind t) (critical t) (at + 4) (size t) (there t)) (at + 4 + size t)) (refused (record { number = fault t; beside = nothing; place = at })) → (fault t ≡ 0 → ⊥) × (r ≡ record { number = fault t; beside = nothing; place = at })
     go true z q = let o : _≡_ {A = ℕ} 0 1 = cc in absurd (omega arith)
     go false z q = (eqb-false (fault t) 0 z, cc)
+
+-- a record of kind k that ends somewhere was read
+pub ended-was : (k at next : ℕ) (t : List ℕ) → next ≡ endOf k (readFrom at t) → (next ≡ 0 → ⊥) → read (seenOf k (critical t) (at + 4) (size t) (there t)) next ≡ readFrom at t
+unfolding readFrom endOf seenOf
+ended-was k at next t e n = go (eqb (fault t) 0) (eqb (kind t) k) refl e
+  where
+    go : (b c : Bool) → eqb (kind t) k ≡ c → next ≡ endOf k (cond b (read (seenOf (kind t) (critical t) (at + 4) (size t) (there t)) (at + 4 + size t)) (refused (record { number = fault t; beside = nothing; place = at })))
+        → read (seenOf k (critical t) (at + 4) (size t) (there t)) next ≡ cond b (read (seenOf (kind t) (critical t) (at + 4) (size t) (there t)) (at + 4 + size t)) (refused (record { number = fault t; beside = nothing; place = at }))
+    go true true z q = rw (q ∙ ap (λ (c : Bool). cond c (at + 4 + size t) 0) z, ← eqb-true (kind t) k z)
+    go true false z q = absurd (n (q ∙ ap (λ (c : Bool). cond c (at + 4 + size t) 0) z))
+    go false c z q = absurd (n q)
 
 -- ---- a record's kind and value, from what is seen
 

@@ -130,6 +130,11 @@ module _ (st : List Sighting) (at : ℕ) (t : List ℕ) (z : fault t ≡ 0) wher
       go true = refl
       go false = refl
 
+-- a denied name is told as a part, whatever its bytes
+pub denied-seen : (bit : Bool) (start n : ℕ) (b : List ℕ) → toldRecord (NtpServerDeny (record { start = start; len = n })) ≡ seenOf 13 bit start n b
+unfolding seenOf shapeOf valueOf
+denied-seen bit start n b = refl
+
 -- as many names are denied as bytes passed, or fewer
 pub denied-few : (s : List ℕ) (at : ℕ) (found : Found) → Going act once tally toldItem meets s at found → found .denied ≤ at
 denied-few s at found g = rw (g .struct) (going-few act once tally toldItem meets s at found g 13)

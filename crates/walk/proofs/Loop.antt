@@ -11,10 +11,11 @@ use lib.ListN.{length, drop, length-drop, length-append}
 use lib.Seq.{drop-drop}
 use lib.Dec.{eqb}
 use Rattle.nts.specs.Refusal.{nothing, Refused}
-use Rattle.record.specs.Record.{kind, critical, size, there, fault, Seen, seenOf, read, refused, readFrom, readAt}
+use Rattle.record.specs.Record.{kind, critical, size, there, fault, Seen, seenOf, read, refused, readFrom, readAt, endOf}
 use Rattle.record.specs.Told.{toldRecord}
+use Rattle.record.specs.declared.Part.{Part}
 use Rattle.record.specs.declared.NtsRecord.{NtsRecord}
-use Rattle.record.proofs.Inverse.{WasRead, read-was, refused-was}
+use Rattle.record.proofs.Inverse.{WasRead, read-was, refused-was, ended-was}
 use Rattle.walk.specs.Walk.{Act, Reader, Sighting, Outcome, stopped, ended, Step, stops, goes, judge, step, faultIn, walk}
 use Rattle.walk.specs.Judge.{ofKind}
 use Rattle.walk.specs.Table.{tableReader}
@@ -132,3 +133,23 @@ module _ {F : Type 0} (f : ℕ → List ℕ → Act) (once : ℕ → Bool) (tall
                 inside = going-inside;
                 few = omega (arith, g .few, going-onward, one-more reader (g .state) st at (drop at s) y);
               }
+
+    -- a record of a kind whose body is told as a part, and which ends somewhere
+    module _ (k : ℕ) (item : Part → NtsRecord) (same : (bit : Bool) (start n : ℕ) (b : List ℕ) → toldRecord (item (record { start = start; len = n })) ≡ seenOf k bit start n b)
+        (next : ℕ) (e : next ≡ endOf k (readAt s at)) (n : next ≡ 0 → ⊥) where
+      body : Part
+      body = record { start = at + 4; len = size (drop at s) }
+
+      passed : read (toldRecord (item body)) next ≡ readAt s at
+      unfolding readAt body
+      passed = ap (λ (x : Seen). read x next) (same (critical (drop at s)) (at + 4) (size (drop at s)) (there (drop at s))) ∙ ended-was k at next (drop at s) e n
+
+      pub passed-inside : next ≤ length s
+      passed-inside = going-inside (item body) next passed
+
+      pub passed-onward : at < next
+      passed-onward = going-onward (item body) next passed
+
+      -- .. is passed over, by what the code makes of it wherever its body lies
+      pub passed-on : (h : F) → ((p : Part) → metOn h ≡ told at found (item p)) → Going s next h
+      passed-on h q = going-on (item body) next passed h (q body)
