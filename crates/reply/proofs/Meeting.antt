@@ -127,6 +127,11 @@ module _ (st : List Sighting) (at : ℕ) (t : List ℕ) (z : fault t ≡ 0) wher
       go true = refl
       go false = refl
 
+-- a cookie is told as a part, whatever its bytes
+pub cookie-seen : (bit : Bool) (start n : ℕ) (b : List ℕ) → toldRecord (NewCookie (record { start = start; len = n })) ≡ seenOf 5 bit start n b
+unfolding seenOf shapeOf valueOf
+cookie-seen bit start n b = refl
+
 -- as many cookies were met as bytes passed, or fewer
 pub cookies-few : (s : List ℕ) (at : ℕ) (found : Found) → Going act once tally toldItem meets s at found → found .cookies ≤ at
 cookies-few s at found g = rw (g .struct) (going-few act once tally toldItem meets s at found g 5)

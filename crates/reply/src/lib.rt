@@ -109,13 +109,20 @@ fn nothing_found() -> Found
     }
 }
 
-// The walk: record after record, until one is refused or the first end record.
+// The walk: record after record, until one is refused or the first end record. A cookie, of which there may be many, is
+// counted and passed over at once.
 fn walk_all(cut: &[u8]) -> Walked
     ensures { λ r. ⌜ toldWalked r ≡ wayOf tally (walk reader [] 0 0 (now (cut .entry))) ⌝ }
 {
     let mut at: usize = 0;
     let mut found = nothing_found();
     loop {
+        let end = record::end_of(NtsRecord::NEW_COOKIE, cut, at);
+        if end != 0 {
+            found.cookies = found.cookies + 1;
+            at = end;
+            continue;
+        }
         let answer = NtsRecord::parse(cut, at);
         let Parsed::Read(x) = answer else {
             return unread(answer);

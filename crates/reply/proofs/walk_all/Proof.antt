@@ -2,15 +2,16 @@
 -- place on, with these, is the whole walk.
 -- Assumes nothing.
 use borrow.Author.Needs.{needs}
-use mathlib.Core.Path.{sym, ap, _∙_}
+use mathlib.Core.Path.{refl, sym, ap, _∙_}
 use Prim.Native.Nat.{_-_}
 use native.Mathlib.Omega.{arith}
 use lib.ListN.{length}
 use Rattle.record.specs.Told.{toldParsed}
+use Rattle.record.specs.declared.NtsRecord.the-variants.{NewCookie}
 use Rattle.reply.specs.Reply.{act, once}
 use Rattle.reply.specs.State.{tally, unreadOf, toldWalked}
-use Rattle.reply.proofs.Meeting.{toldStep, toldItem, meets, cookies-few}
-use Rattle.walk.proofs.Loop.{Going, going-start, going-unread, going-inside, going-onward, going-stop, going-end, going-on}
+use Rattle.reply.proofs.Meeting.{toldStep, toldItem, meets, cookie-seen, cookies-few}
+use Rattle.walk.proofs.Loop.{Going, going-start, going-unread, going-inside, going-onward, going-stop, going-end, going-on, passed-inside, passed-onward, passed-on}
 use Rattle.reply.proofs.walk_all.Statement.{statement}
 use Rattle.reply.proofs.walk_all.Tie as tie
 
@@ -26,6 +27,18 @@ nothing-found-requires c κs = search needs
 loop-holds : tie.Need-loop-holds Inv-loop μ-loop
 loop-holds c = going-start act once tally toldItem meets _ _ (c .nothing-found .ensures)
 
+end-of-requires : tie.Need-end-of-requires Inv-loop μ-loop
+end-of-requires c κs = search needs
+
+add-found : tie.Need-add-found Inv-loop μ-loop
+add-found c = omega (arith, cookies-few _ _ _ (c .before .before .before .loop .inv), c .before .before .before .loop .inv .inside)
+
+loop-less : tie.Need-loop-less Inv-loop μ-loop
+loop-less c = omega (arith, passed-inside act once tally toldItem meets _ _ _ (c .before .before .before .loop .inv) 5 NewCookie cookie-seen _ (c .before .before .end-of .ensures) (c .before .if1 .taken), passed-onward act once tally toldItem meets _ _ _ (c .before .before .before .loop .inv) 5 NewCookie cookie-seen _ (c .before .before .end-of .ensures) (c .before .if1 .taken))
+
+loop-again : tie.Need-loop-again Inv-loop μ-loop
+loop-again c = passed-on act once tally toldItem meets _ _ _ (c .before .before .before .loop .inv) 5 NewCookie cookie-seen _ (c .before .before .end-of .ensures) (c .before .if1 .taken) _ (λ p. refl)
+
 parse-requires : tie.Need-parse-requires Inv-loop μ-loop
 parse-requires c κs = search needs
 
@@ -39,10 +52,10 @@ unread-requires : tie.Need-unread-requires Inv-loop μ-loop
 unread-requires c κs = search needs
 
 returns : tie.Need-returns Inv-loop μ-loop
-returns c = let e = c .before .enum-told .given .1 in ap toldWalked (c .unread .ensures ∙ ap unreadOf e) ∙ going-unread act once tally toldItem meets _ _ _ (c .before .before .before .before .loop .inv) _ (ap toldParsed (sym e) ∙ c .before .before .before .parse .ensures)
+returns c = let e = c .before .enum-told .given .1 in ap toldWalked (c .unread .ensures ∙ ap unreadOf e) ∙ going-unread act once tally toldItem meets _ _ _ (c .before .before .before .before .before .before .loop .inv) _ (ap toldParsed (sym e) ∙ c .before .before .before .parse .ensures)
 
 take-record-requires : tie.Need-take-record-requires Inv-loop μ-loop
-take-record-requires c κs = (omega (arith, cookies-few _ _ _ (c .before .before .before .before .loop .inv), c .before .before .before .before .loop .inv .inside), omega (arith, c .before .before .before .before .loop .inv .inside))
+take-record-requires c κs = (omega (arith, cookies-few _ _ _ (c .before .before .before .before .before .before .loop .inv), c .before .before .before .before .before .before .loop .inv .inside), omega (arith, c .before .before .before .before .before .before .loop .inv .inside))
 
 enum-known-step : tie.Need-enum-known-step Inv-loop μ-loop
 enum-known-step c = search needs
@@ -51,19 +64,19 @@ enum-known-step-2 : tie.Need-enum-known-step-2 Inv-loop μ-loop
 enum-known-step-2 c = search needs
 
 returns-2 : tie.Need-returns-2 Inv-loop μ-loop
-returns-2 c = going-stop act once tally toldItem meets _ _ _ (c .before .before .before .before .before .before .before .before .loop .inv) (c .before .before .before .before .before .answer .given .0 .0 .item) (c .before .before .before .before .before .answer .given .0 .0 .next .at) (ap toldParsed (sym (c .before .before .before .before .before .answer .given .1)) ∙ c .before .before .before .before .before .before .before .parse .ensures) _ (ap (toldStep _ _) (sym (c .before .step2 .given .1) ∙ c .before .before .before .take-record .ensures))
+returns-2 c = going-stop act once tally toldItem meets _ _ _ (c .before .before .before .before .before .before .before .before .before .before .loop .inv) (c .before .before .before .before .before .answer .given .0 .0 .item) (c .before .before .before .before .before .answer .given .0 .0 .next .at) (ap toldParsed (sym (c .before .before .before .before .before .answer .given .1)) ∙ c .before .before .before .before .before .before .before .parse .ensures) _ (ap (toldStep _ _) (sym (c .before .step2 .given .1) ∙ c .before .before .before .take-record .ensures))
 
 enum-told-2 : tie.Need-enum-told-2 Inv-loop μ-loop
 enum-told-2 c = search needs
 
 returns-3 : tie.Need-returns-3 Inv-loop μ-loop
-returns-3 c = going-end act once tally toldItem meets _ _ _ (c .before .before .before .before .before .before .before .loop .inv) (c .before .before .before .before .answer .given .0 .0 .item) (c .before .before .before .before .answer .given .0 .0 .next .at) (ap toldParsed (sym (c .before .before .before .before .answer .given .1)) ∙ c .before .before .before .before .before .before .parse .ensures) (ap (toldStep _ _) (sym (c .enum-told2 .given .1) ∙ c .before .before .take-record .ensures))
+returns-3 c = going-end act once tally toldItem meets _ _ _ (c .before .before .before .before .before .before .before .before .before .loop .inv) (c .before .before .before .before .answer .given .0 .0 .item) (c .before .before .before .before .answer .given .0 .0 .next .at) (ap toldParsed (sym (c .before .before .before .before .answer .given .1)) ∙ c .before .before .before .before .before .before .parse .ensures) (ap (toldStep _ _) (sym (c .enum-told2 .given .1) ∙ c .before .before .take-record .ensures))
 
-loop-less : tie.Need-loop-less Inv-loop μ-loop
-loop-less c = omega (arith, going-inside act once tally toldItem meets _ _ _ (c .before .before .before .before .before .before .before .before .loop .inv) (c .before .before .before .before .before .answer .given .0 .0 .item) (c .before .before .before .before .before .answer .given .0 .0 .next .at) (ap toldParsed (sym (c .before .before .before .before .before .answer .given .1)) ∙ c .before .before .before .before .before .before .before .parse .ensures), going-onward act once tally toldItem meets _ _ _ (c .before .before .before .before .before .before .before .before .loop .inv) (c .before .before .before .before .before .answer .given .0 .0 .item) (c .before .before .before .before .before .answer .given .0 .0 .next .at) (ap toldParsed (sym (c .before .before .before .before .before .answer .given .1)) ∙ c .before .before .before .before .before .before .before .parse .ensures))
+loop-less-2 : tie.Need-loop-less-2 Inv-loop μ-loop
+loop-less-2 c = omega (arith, going-inside act once tally toldItem meets _ _ _ (c .before .before .before .before .before .before .before .before .before .before .loop .inv) (c .before .before .before .before .before .answer .given .0 .0 .item) (c .before .before .before .before .before .answer .given .0 .0 .next .at) (ap toldParsed (sym (c .before .before .before .before .before .answer .given .1)) ∙ c .before .before .before .before .before .before .before .parse .ensures), going-onward act once tally toldItem meets _ _ _ (c .before .before .before .before .before .before .before .before .before .before .loop .inv) (c .before .before .before .before .before .answer .given .0 .0 .item) (c .before .before .before .before .before .answer .given .0 .0 .next .at) (ap toldParsed (sym (c .before .before .before .before .before .answer .given .1)) ∙ c .before .before .before .before .before .before .before .parse .ensures))
 
-loop-again : tie.Need-loop-again Inv-loop μ-loop
-loop-again c = going-on act once tally toldItem meets _ _ _ (c .before .before .before .before .before .before .before .before .loop .inv) (c .before .before .before .before .before .answer .given .0 .0 .item) (c .before .before .before .before .before .answer .given .0 .0 .next .at) (ap toldParsed (sym (c .before .before .before .before .before .answer .given .1)) ∙ c .before .before .before .before .before .before .before .parse .ensures) _ (ap (toldStep _ _) (sym (c .before .step .given .1) ∙ c .before .before .before .take-record .ensures))
+loop-again-2 : tie.Need-loop-again-2 Inv-loop μ-loop
+loop-again-2 c = going-on act once tally toldItem meets _ _ _ (c .before .before .before .before .before .before .before .before .before .before .loop .inv) (c .before .before .before .before .before .answer .given .0 .0 .item) (c .before .before .before .before .before .answer .given .0 .0 .next .at) (ap toldParsed (sym (c .before .before .before .before .before .answer .given .1)) ∙ c .before .before .before .before .before .before .before .parse .ensures) _ (ap (toldStep _ _) (sym (c .before .step .given .1) ∙ c .before .before .before .take-record .ensures))
 
 pub walk-all-spec : {M : Type 1} → statement M
 walk-all-spec =
@@ -73,6 +86,10 @@ walk-all-spec =
     μ-loop
     nothing-found-requires
     loop-holds
+    end-of-requires
+    add-found
+    loop-less
+    loop-again
     parse-requires
     enum-known-answer
     enum-told
@@ -84,5 +101,5 @@ walk-all-spec =
     returns-2
     enum-told-2
     returns-3
-    loop-less
-    loop-again)
+    loop-less-2
+    loop-again-2)
