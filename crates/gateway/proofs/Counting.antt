@@ -3,7 +3,7 @@
 use mathlib.Core.Path.{_≡_, refl, sym, ap, subst}
 use mathlib.Core.List.{List}
 use Prim.Native.Nat.{ℕ, _<_, _≤_}
-use borrow.Author.Tests.{lt-ltb, le-ltb, le-leb, lt-leb}
+use borrow.Author.Tests.{le-leb, lt-leb}
 use lib.ListN.{length}
 use Rattle.wire.specs.Over.{over}
 use Rattle.wire.proofs.Over.{over-none}
@@ -16,6 +16,7 @@ use Rattle.plan.specs.declared.Plan.{Plan}
 use Rattle.messages.specs.Messages.{bodiesOf, messageOf, replyChecked, replyRecords, supportRecords, supportChecked}
 use Rattle.messages.specs.declared.Asked.{Asked}
 use Rattle.gateway.specs.Cells.{countNumber, countCells, Gives, Writes}
+use Rattle.gateway.proofs.Lent.{few-so, few-not, gives-few, gives-told}
 use Rattle.gateway.specs.Planned as planned
 use Rattle.gateway.specs.Planned.{plannedReply, plannedBytes}
 use Rattle.gateway.specs.Given as given
@@ -23,11 +24,8 @@ use Rattle.gateway.specs.Given.{heldLength, heldBytes, askedOf, supportC
 
 -- ---- no cell is lent
 
-pub no-length : (number : ℕ) (answer lent : List ℕ) → length lent < 1 → Gives 1 number answer lent 10 lent
-no-length number answer lent h = record { says = rw (lt-ltb (length lent) 1 h); left = rw (lt-ltb (length lent) 1 h) }
-
 pub no-cell : (a : Count) (b o lent : List ℕ) → length lent < 1 → Writes a b o lent 10 o lent
-no-cell a b o lent h = record { gives = no-length (countNumber a) (countCells a) lent h; wrote = rw (lt-ltb (length lent) 1 h) }
+no-cell a b o lent h = record { gives = gives-few h; wrote = rw (few-so 1 lent h) }
 
 -- ---- what a support reply is to hold
 
@@ -51,7 +49,7 @@ module _ {lent : List ℕ} (lends : 1 ≤ length lent) where
   -- the number and the cell are those of what the call answered
   pub counted : {r : ℕ} {after : List ℕ} {a : Count} (told : Count) → told ≡ a → (r ≡ countNumber told) × (after ≡ over (countCells told) lent)
       → Gives 1 (countNumber a) (countCells a) lent r after
-  counted told e p = record { says = rw (le-ltb (length lent) 1 lends, ← e) (p .0); left = rw (le-ltb (length lent) 1 lends, ← e) (p .1) }
+  counted told e p = gives-told countNumber countCells lends e (p .0) (p .1)
 
   -- refused before any call
   pub uncounted : {a : Count} (n : ℕ) (b : Beside) → refused n b ≡ a → Gives 1 (countNumber a) (countCells a) lent n lent
@@ -59,11 +57,11 @@ module _ {lent : List ℕ} (lends : 1 ≤ length lent) where
 
   pub wrote : {a : Count} {b o o′ after : List ℕ} {x : ByteCount} {r : ℕ} → Wrote a b o x o′ → (r ≡ countNumber (toldCount x)) × (after ≡ over (countCells (toldCount x)) lent)
       → Writes a b o lent r o′ after
-  wrote {a} {b} {o} {o′} {after} {x} w p = record { gives = counted (toldCount x) (w .says) p; wrote = rw (le-ltb (length lent) 1 lends) (w .left) }
+  wrote {a} {b} {o} {o′} {after} {x} w p = record { gives = counted (toldCount x) (w .says) p; wrote = rw (few-not 1 lent lends) (w .left) }
 
   pub unwritten : {a : Count} {b o : List ℕ} (n : ℕ) (c : Beside) → refused n c ≡ a → Writes a b o lent n o lent
   unfolding leftBy
-  unwritten n c e = record { gives = uncounted n c e; wrote = rw (le-ltb (length lent) 1 lends, ← e) }
+  unwritten n c e = record { gives = uncounted n c e; wrote = rw (few-not 1 lent lends, ← e) }
 
   -- the same where the call's value is what lent cells hold, or what a number asks for
   module _ {o o′ after : List ℕ} {x : ByteCount} {r : ℕ} where

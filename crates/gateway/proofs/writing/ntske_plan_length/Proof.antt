@@ -6,12 +6,13 @@ use mathlib.Core.Path.{sym, ap, _∙_}
 use Rattle.nts.specs.Refusal.{nothing}
 use Rattle.gateway.specs.Planned.{Held, plannedLength}
 use Rattle.gateway.specs.Code.{toldHeld}
-use Rattle.gateway.proofs.Counting.{no-length, counted, uncounted}
+use Rattle.gateway.proofs.Lent.{gives-few}
+use Rattle.gateway.proofs.Counting.{counted, uncounted}
 use Rattle.gateway.proofs.writing.ntske_plan_length.Statement.{statement}
 use Rattle.gateway.proofs.writing.ntske_plan_length.Tie as tie
 
 returns : tie.Need-returns
-returns c = no-length _ _ _ (c .if1 .taken)
+returns c = gives-few (c .if1 .taken)
 
 plan-in-requires : tie.Need-plan-in-requires
 plan-in-requires c κs = search needs

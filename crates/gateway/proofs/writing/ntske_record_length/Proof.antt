@@ -6,12 +6,13 @@ use mathlib.Core.Path.{sym, ap, _∙_}
 use Rattle.nts.specs.Refusal.{nothing}
 use Rattle.gateway.specs.Given.{Held, heldLength}
 use Rattle.gateway.specs.Code.{toldGiven}
-use Rattle.gateway.proofs.Counting.{no-length, counted, uncounted}
+use Rattle.gateway.proofs.Lent.{gives-few}
+use Rattle.gateway.proofs.Counting.{counted, uncounted}
 use Rattle.gateway.proofs.writing.ntske_record_length.Statement.{statement}
 use Rattle.gateway.proofs.writing.ntske_record_length.Tie as tie
 
 returns : tie.Need-returns
-returns c = no-length _ _ _ (c .if1 .taken)
+returns c = gives-few (c .if1 .taken)
 
 record-in-requires : tie.Need-record-in-requires
 record-in-requires c κs = search needs

@@ -1,12 +1,13 @@
 -- `gateway::writing::ntske_request_length` meets its contract: what the library's call answered is given.
 -- Assumes nothing.
 use borrow.Author.Needs.{needs}
-use Rattle.gateway.proofs.Counting.{no-length, counted}
+use Rattle.gateway.proofs.Lent.{gives-few}
+use Rattle.gateway.proofs.Counting.{counted}
 use Rattle.gateway.proofs.writing.ntske_request_length.Statement.{statement}
 use Rattle.gateway.proofs.writing.ntske_request_length.Tie as tie
 
 returns : tie.Need-returns
-returns c = no-length _ _ _ (c .if1 .taken)
+returns c = gives-few (c .if1 .taken)
 
 request-length-requires : tie.Need-request-length-requires
 request-length-requires c κs = search needs

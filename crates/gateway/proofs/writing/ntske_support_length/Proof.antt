@@ -3,12 +3,13 @@
 use borrow.Author.Needs.{needs}
 use mathlib.Core.Path.{_∙_}
 use Rattle.nts.specs.Refusal.{nothing}
-use Rattle.gateway.proofs.Counting.{no-length, asked-count, none-asked, counted, uncounted}
+use Rattle.gateway.proofs.Lent.{gives-few}
+use Rattle.gateway.proofs.Counting.{asked-count, none-asked, counted, uncounted}
 use Rattle.gateway.proofs.writing.ntske_support_length.Statement.{statement}
 use Rattle.gateway.proofs.writing.ntske_support_length.Tie as tie
 
 returns : tie.Need-returns
-returns c = no-length _ _ _ (c .if1 .taken)
+returns c = gives-few (c .if1 .taken)
 
 returns-2 : tie.Need-returns-2
 returns-2 c = uncounted (c .before .if1 .left) 9 nothing (none-asked _ _ _ (c .if2 .taken))
