@@ -1,5 +1,0 @@
-pub mod Cells
-pub mod Read
-pub mod Planned
-pub mod Given
-pub mod Code

@@ -1,0 +1,3 @@
+pub mod Holding
+pub mod Counting
+pub mod Same

@@ -1,0 +1,18 @@
+-- Any two results that meet a public function's contract are the same, and so is all that they leave in what was lent: one theorem a function, over
+-- the contract itself.
+-- Assumes nothing.
+use mathlib.Core.Path.{_≡_, sym, _∙_}
+use denote.Ref.{now}
+use Rattle.cells.proofs.Lent.{gives-same}
+use Rattle.reading.proofs.ntske_read_request.Reads as ntske-read-request
+use Rattle.reading.proofs.ntske_read_reply.Reads as ntske-read-reply
+use Rattle.reading.proofs.ntske_read_record.Reads as ntske-read-record
+
+pub ntske-read-request-same : (κs : _) (a : _) (r r′ : _) (e e′ : _) → ntske-read-request.Learnt κs a r e → ntske-read-request.Learnt κs a r′ e′ → (r ≡ r′) × (now (e .1 .1 .0) ≡ now (e′ .1 .1 .0)) × (now (e .1 .1 .1 .0) ≡ now (e′ .1 .1 .1 .0))
+ntske-read-request-same κs a r r′ e e′ p q = let g = gives-same (p .gives) (q .gives) in (g .0, p .left ∙ sym (q .left), g .1)
+
+pub ntske-read-reply-same : (κs : _) (a : _) (r r′ : _) (e e′ : _) → ntske-read-reply.Learnt κs a r e → ntske-read-reply.Learnt κs a r′ e′ → (r ≡ r′) × (now (e .1 .1 .0) ≡ now (e′ .1 .1 .0)) × (now (e .1 .1 .1 .0) ≡ now (e′ .1 .1 .1 .0))
+ntske-read-reply-same κs a r r′ e e′ p q = let g = gives-same (p .gives) (q .gives) in (g .0, p .left ∙ sym (q .left), g .1)
+
+pub ntske-read-record-same : (κs : _) (a : _) (r r′ : _) (e e′ : _) → ntske-read-record.Learnt κs a r e → ntske-read-record.Learnt κs a r′ e′ → (r ≡ r′) × (now (e .1 .1 .0) ≡ now (e′ .1 .1 .0))
+ntske-read-record-same κs a r r′ e e′ p q = gives-same p q
