@@ -1,12 +1,15 @@
 //! Holds the declarations of the library's functions against their source: signatures ROOT ARCHIVE
 //!
-//! Reads each `#[no_mangle] pub extern "C" fn` of crates/gateway/src, puts its arguments into C's and into Rust's form, and compares them, by
+//! Reads each `#[no_mangle] pub extern "C" fn` of the crates with calls, puts its arguments into C's and into Rust's form, and compares them, by
 //! name, type and order, with include/ntske.h and with bindings/rust/src/raw.rs; compares the functions that `nm` shows in the archive, which
 //! may need nothing from outside but what a compiler itself calls to move memory; and asks that tests/abi/calls.c calls each. The numbers of
 //! cells and of refusals in the header are held against the source, too. One line a function; the status is 0 only where nothing differs.
 
 use std::collections::BTreeMap;
 use std::process::{Command, ExitCode};
+
+/// The crates that have calls of a host.
+const CRATES: [&str; 4] = ["reading", "handing", "planning", "writing"];
 
 /// Name, arguments and result, as text in one spacing.
 #[derive(Clone, PartialEq)]
@@ -25,13 +28,7 @@ fn main() -> ExitCode {
     };
     let read = |path: &str| std::fs::read_to_string(format!("{root}/{path}")).unwrap_or_else(|e| panic!("{path}: {e}"));
 
-    let mut source = String::new();
-    for entry in std::fs::read_dir(format!("{root}/crates/gateway/src")).expect("the source of gateway") {
-        let path = entry.expect("a file of gateway").path();
-        if path.extension().is_some_and(|e| e == "rt") {
-            source += &std::fs::read_to_string(path).expect("a file of gateway is text");
-        }
-    }
+    let source: String = CRATES.iter().map(|name| read(&format!("crates/{name}/src/lib.rt"))).collect();
     let exported = exported(&source);
     let header_text = read("include/ntske.h");
     let header = declared_in_c(&header_text);
