@@ -1,6 +1,6 @@
 /*
- * The key exchange of Network Time Security (RFC 8915) for a host in C. The functions are those of crates/gateway, which are proved to meet their
- * contracts; this header is not, and tests/abi holds it against the source.
+ * The key exchange of Network Time Security (RFC 8915) for a host in C. The functions are those of crates/reading, handing, planning and writing, which are
+ * proved to meet their contracts; this header is not, and tests/abi holds it against the source.
  *
  * Every call ends with an answer for every value of its arguments, and returns 0 or the number of a refusal; ntske_is_utf8 alone has none, and returns its answer:
  *

@@ -1,6 +1,6 @@
-//! The key exchange of Network Time Security (RFC 8915) for a host in Rust: the calls of crates/gateway, which are proved to meet their
-//! contracts, under types that keep a message, its parts and its tables together. Nothing is allocated, and no call reads or keeps anything
-//! but what is lent to it. TLS, keys and ciphers are the host's.
+//! The key exchange of Network Time Security (RFC 8915) for a host in Rust: the calls of crates/reading, handing, planning and writing, which are
+//! proved to meet their contracts, under types that keep a message, its parts and its tables together. Nothing is allocated, and no call reads or
+//! keeps anything but what is lent to it. TLS, keys and ciphers are the host's.
 //!
 //! ```
 //! use ntske::{choose, AeadAlgorithm, Message, NextProtocol, Request};
