@@ -63,7 +63,7 @@ pub extern "C" fn ntske_write_reply(
     let Held::Plan(x) = held else {
         return cells::NO_VALUE;
     };
-    let answer = messages::write_reply(x, tray, server, out);
+    let answer = outgoing::write_reply(x, tray, server, out);
     put_count(answer, written)
 }
 
@@ -75,7 +75,7 @@ pub extern "C" fn ntske_write_no_protocol(out: &mut [u8], written: &mut [usize])
     if written.len() < 1 {
         return cells::NO_ROOM;
     }
-    let answer = messages::write_no_protocol(out);
+    let answer = declining::write_no_protocol(out);
     put_count(answer, written)
 }
 
@@ -91,7 +91,7 @@ pub extern "C" fn ntske_write_no_algorithm(
     if written.len() < 1 {
         return cells::NO_ROOM;
     }
-    let answer = messages::write_no_algorithm(NextProtocol(protocol), out);
+    let answer = declining::write_no_algorithm(NextProtocol(protocol), out);
     put_count(answer, written)
 }
 
@@ -103,7 +103,7 @@ pub extern "C" fn ntske_write_error(code: u16, out: &mut [u8], written: &mut [us
     if written.len() < 1 {
         return cells::NO_ROOM;
     }
-    let answer = messages::write_error(ErrorCode(code), out);
+    let answer = declining::write_error(ErrorCode(code), out);
     put_count(answer, written)
 }
 
@@ -126,7 +126,7 @@ pub extern "C" fn ntske_write_support(
     if 7 < asked {
         return cells::NO_VALUE;
     }
-    let answer = messages::write_support(asked_of(asked), pairs, protocols, out);
+    let answer = supporting::write_support(asked_of(asked), pairs, protocols, out);
     put_count(answer, written)
 }
 
@@ -146,7 +146,7 @@ pub extern "C" fn ntske_support_length(
     if 7 < asked {
         return cells::NO_VALUE;
     }
-    let answer = messages::support_length(asked_of(asked), pairs, protocols);
+    let answer = supporting::support_length(asked_of(asked), pairs, protocols);
     put_count(answer, length)
 }
 
@@ -166,7 +166,7 @@ pub extern "C" fn ntske_write_request(
     if written.len() < 1 {
         return cells::NO_ROOM;
     }
-    let answer = messages::write_request(protocols, algorithms, tray, used, out);
+    let answer = outgoing::write_request(protocols, algorithms, tray, used, out);
     put_count(answer, written)
 }
 
@@ -185,7 +185,7 @@ pub extern "C" fn ntske_request_length(
     if length.len() < 1 {
         return cells::NO_ROOM;
     }
-    let answer = messages::request_length(protocols, algorithms, tray, used);
+    let answer = outgoing::request_length(protocols, algorithms, tray, used);
     put_count(answer, length)
 }
 
