@@ -3,36 +3,28 @@
 -- Assumes nothing.
 use mathlib.Core.Path.{_≡_, sym, _∙_}
 use denote.Ref.{now}
-use Rattle.record.proofs.Apart.{count-apart, wrote-same}
-use Rattle.messages.proofs.write_reply.Reads as write-reply
-use Rattle.messages.proofs.write_no_protocol.Reads as write-no-protocol
-use Rattle.messages.proofs.write_no_algorithm.Reads as write-no-algorithm
-use Rattle.messages.proofs.write_error.Reads as write-error
-use Rattle.messages.proofs.write_support.Reads as write-support
-use Rattle.messages.proofs.support_length.Reads as support-length
-use Rattle.messages.proofs.write_request.Reads as write-request
-use Rattle.messages.proofs.request_length.Reads as request-length
+use Rattle.wire.proofs.Over.{tried-same}
+use Rattle.messages.proofs.too_long.Reads as too-long
+use Rattle.messages.proofs.put_empty.Reads as put-empty
+use Rattle.messages.proofs.put_one.Reads as put-one
+use Rattle.messages.proofs.put_body.Reads as put-body
+use Rattle.messages.proofs.put_list.Reads as put-list
+use Rattle.messages.proofs.put_keep_alive.Reads as put-keep-alive
 
-pub write-reply-same : (κs : _) (a : _) (r r′ : _) (e e′ : _) → write-reply.Learnt κs a r e → write-reply.Learnt κs a r′ e′ → (r ≡ r′) × (now (e .1 .1 .1 .0) ≡ now (e′ .1 .1 .1 .0))
-write-reply-same κs a r r′ e e′ p q = wrote-same p q
+pub too-long-same : (κs : _) (a : _) (r r′ : _) (e e′ : _) → too-long.Learnt κs a r e → too-long.Learnt κs a r′ e′ → r ≡ r′
+too-long-same κs a r r′ e e′ p q = p ∙ sym q
 
-pub write-no-protocol-same : (κs : _) (a : _) (r r′ : _) (e e′ : _) → write-no-protocol.Learnt κs a r e → write-no-protocol.Learnt κs a r′ e′ → (r ≡ r′) × (now (e .0) ≡ now (e′ .0))
-write-no-protocol-same κs a r r′ e e′ p q = wrote-same p q
+pub put-empty-same : (κs : _) (a : _) (r r′ : _) (e e′ : _) → put-empty.Learnt κs a r e → put-empty.Learnt κs a r′ e′ → (r ≡ r′) × (now (e .1 .0) ≡ now (e′ .1 .0))
+put-empty-same κs a r r′ e e′ p q = tried-same p q
 
-pub write-no-algorithm-same : (κs : _) (a : _) (r r′ : _) (e e′ : _) → write-no-algorithm.Learnt κs a r e → write-no-algorithm.Learnt κs a r′ e′ → (r ≡ r′) × (now (e .1 .0) ≡ now (e′ .1 .0))
-write-no-algorithm-same κs a r r′ e e′ p q = wrote-same p q
+pub put-one-same : (κs : _) (a : _) (r r′ : _) (e e′ : _) → put-one.Learnt κs a r e → put-one.Learnt κs a r′ e′ → (r ≡ r′) × (now (e .1 .1 .0) ≡ now (e′ .1 .1 .0))
+put-one-same κs a r r′ e e′ p q = tried-same p q
 
-pub write-error-same : (κs : _) (a : _) (r r′ : _) (e e′ : _) → write-error.Learnt κs a r e → write-error.Learnt κs a r′ e′ → (r ≡ r′) × (now (e .1 .0) ≡ now (e′ .1 .0))
-write-error-same κs a r r′ e e′ p q = wrote-same p q
+pub put-body-same : (κs : _) (a : _) (r r′ : _) (e e′ : _) → put-body.Learnt κs a r e → put-body.Learnt κs a r′ e′ → (r ≡ r′) × (now (e .1 .1 .0) ≡ now (e′ .1 .1 .0))
+put-body-same κs a r r′ e e′ p q = tried-same p q
 
-pub write-support-same : (κs : _) (a : _) (r r′ : _) (e e′ : _) → write-support.Learnt κs a r e → write-support.Learnt κs a r′ e′ → (r ≡ r′) × (now (e .1 .1 .1 .0) ≡ now (e′ .1 .1 .1 .0))
-write-support-same κs a r r′ e e′ p q = wrote-same p q
+pub put-list-same : (κs : _) (a : _) (r r′ : _) (e e′ : _) → put-list.Learnt κs a r e → put-list.Learnt κs a r′ e′ → (r ≡ r′) × (now (e .1 .1 .0) ≡ now (e′ .1 .1 .0))
+put-list-same κs a r r′ e e′ p q = tried-same p q
 
-pub support-length-same : (κs : _) (a : _) (r r′ : _) (e e′ : _) → support-length.Learnt κs a r e → support-length.Learnt κs a r′ e′ → r ≡ r′
-support-length-same κs a r r′ e e′ p q = count-apart r r′ (p ∙ sym q)
-
-pub write-request-same : (κs : _) (a : _) (r r′ : _) (e e′ : _) → write-request.Learnt κs a r e → write-request.Learnt κs a r′ e′ → (r ≡ r′) × (now (e .1 .1 .1 .1 .0) ≡ now (e′ .1 .1 .1 .1 .0))
-write-request-same κs a r r′ e e′ p q = wrote-same p q
-
-pub request-length-same : (κs : _) (a : _) (r r′ : _) (e e′ : _) → request-length.Learnt κs a r e → request-length.Learnt κs a r′ e′ → r ≡ r′
-request-length-same κs a r r′ e e′ p q = count-apart r r′ (p ∙ sym q)
+pub put-keep-alive-same : (κs : _) (a : _) (r r′ : _) (e e′ : _) → put-keep-alive.Learnt κs a r e → put-keep-alive.Learnt κs a r′ e′ → (r ≡ r′) × (now (e .1 .0) ≡ now (e′ .1 .0))
+put-keep-alive-same κs a r r′ e e′ p q = tried-same p q

@@ -49,6 +49,10 @@ messageOf cs = flat cs ++ endRecord
 abbrev pub tooLong : ℕ → Bool
 tooLong n = ltb 65535 n
 
+-- a record whose body is not too long, and nothing otherwise
+unfoldable pub shortRecord : ℕ → List ℕ → List ℕ
+shortRecord word b = cond (tooLong (length b)) [] (recordOf word b)
+
 -- the bodies that a tray holds
 abbrev pub bodiesOf : Fields → List (List ℕ)
 bodiesOf broken = []

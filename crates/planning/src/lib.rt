@@ -168,7 +168,7 @@ pub extern "C" fn ntske_write_reply(
     let Held::Plan(x) = held else {
         return NO_VALUE;
     };
-    let answer = messages::write_reply(x, tray, server, out);
+    let answer = outgoing::write_reply(x, tray, server, out);
     cells::give_count(answer, written)
 }
 

@@ -182,7 +182,7 @@ fn put_reply(
     lent::fill(dst);
     let length = plan.length(tray);
     let to = text::put_length(out, at, length);
-    let answer = messages::write_reply(plan, tray, name, dst);
+    let answer = outgoing::write_reply(plan, tray, name, dst);
     lent::put_written(out, to, dst, answer)
 }
 

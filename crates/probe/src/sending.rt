@@ -30,7 +30,7 @@ fn no_protocol(case: &[u8], dst: &mut [u8], out: &mut [u8], at: usize) -> usize 
         return text::bad_case(out, at);
     }
     lent::fill(dst);
-    let answer = messages::write_no_protocol(dst);
+    let answer = declining::write_no_protocol(dst);
     lent::put_written(out, at, dst, answer)
 }
 
@@ -39,7 +39,7 @@ fn no_algorithm(case: &[u8], dst: &mut [u8], out: &mut [u8], at: usize) -> usize
         return text::bad_case(out, at);
     }
     lent::fill(dst);
-    let answer = messages::write_no_algorithm(NextProtocol(case::number16(case, 5)), dst);
+    let answer = declining::write_no_algorithm(NextProtocol(case::number16(case, 5)), dst);
     lent::put_written(out, at, dst, answer)
 }
 
@@ -48,7 +48,7 @@ fn error(case: &[u8], dst: &mut [u8], out: &mut [u8], at: usize) -> usize {
         return text::bad_case(out, at);
     }
     lent::fill(dst);
-    let answer = messages::write_error(ErrorCode(case::number16(case, 5)), dst);
+    let answer = declining::write_error(ErrorCode(case::number16(case, 5)), dst);
     lent::put_written(out, at, dst, answer)
 }
 
@@ -81,9 +81,9 @@ fn put_support(
     at: usize,
 ) -> usize {
     lent::fill(dst);
-    let length = messages::support_length(asked, pairs, protocols);
+    let length = supporting::support_length(asked, pairs, protocols);
     let to = text::put_length(out, at, length);
-    let answer = messages::write_support(asked, pairs, protocols, dst);
+    let answer = supporting::write_support(asked, pairs, protocols, dst);
     lent::put_written(out, to, dst, answer)
 }
 
@@ -126,8 +126,8 @@ fn put_request(
     at: usize,
 ) -> usize {
     lent::fill(dst);
-    let length = messages::request_length(protocols, algorithms, tray, used);
+    let length = outgoing::request_length(protocols, algorithms, tray, used);
     let to = text::put_length(out, at, length);
-    let answer = messages::write_request(protocols, algorithms, tray, used, dst);
+    let answer = outgoing::write_request(protocols, algorithms, tray, used, dst);
     lent::put_written(out, to, dst, answer)
 }

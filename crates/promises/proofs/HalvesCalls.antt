@@ -38,11 +38,11 @@ use Rattle.request.specs.declared.Answer as request-answer
 use Rattle.request.specs.declared.Answer.the-variants as request-answers
 use Rattle.messages.specs.Messages.{cellBytes, allUtf8, messageOf, bodiesOf, replyRecords, replyChecked, noProtocolRecords, noAlgorithmRecords, errorRecords, requestRecords, requestLength, requestChecked}
 use Rattle.messages.proofs.Cleared.{reply-cleared, request-cleared, length-reply, length-request, length-no-protocol, length-no-algorithm, length-error, Stands, wrote-written}
-use Rattle.messages.proofs.write_reply.Reads as write-reply
-use Rattle.messages.proofs.write_no_protocol.Reads as write-no-protocol
-use Rattle.messages.proofs.write_no_algorithm.Reads as write-no-algorithm
-use Rattle.messages.proofs.write_error.Reads as write-error
-use Rattle.messages.proofs.write_request.Reads as write-request
+use Rattle.outgoing.proofs.write_reply.Reads as write-reply
+use Rattle.declining.proofs.write_no_protocol.Reads as write-no-protocol
+use Rattle.declining.proofs.write_no_algorithm.Reads as write-no-algorithm
+use Rattle.declining.proofs.write_error.Reads as write-error
+use Rattle.outgoing.proofs.write_request.Reads as write-request
 use Rattle.promises.specs.Handed as request-hand
 use Rattle.promises.specs.HandedReply as reply-hand
 use Rattle.promises.proofs.Calls.{Face}
@@ -54,7 +54,7 @@ use Rattle.promises.proofs.Halves.{serverSent, portSent, reply-read, re
 
 -- ---- calls of the writers: what each function's own contract says
 
--- a call of messages::write_reply with a plan, its tray and the server's name, lent an output, with its answer and the output afterwards
+-- a call of outgoing::write_reply with a plan, its tray and the server's name, lent an output, with its answer and the output afterwards
 pub record WroteReply (x : Plan) (tray server out : List ℕ) (r : ByteCount) (after : List ℕ) : Type 1 where
   pub κs : _
   pub a : _
@@ -66,7 +66,7 @@ pub record WroteReply (x : Plan) (tray server out : List ℕ) (r : ByteCount) (a
   pub of-out : now (a .1 .1 .1 .0) ≡ out
   pub of-exit : now (e .1 .1 .1 .0) ≡ after
 
--- a call of messages::write_request with protocols, algorithms, and a tray of denied names with its used length
+-- a call of outgoing::write_request with protocols, algorithms, and a tray of denied names with its used length
 pub record WroteRequest (protocols algorithms tray : List ℕ) (used : ℕ) (out : List ℕ) (r : ByteCount) (after : List ℕ) : Type 1 where
   pub κs : _
   pub a : _
@@ -79,7 +79,7 @@ pub record WroteRequest (protocols algorithms tray : List ℕ) (used : ℕ) (out
   pub of-out : now (a .1 .1 .1 .1 .0) ≡ out
   pub of-exit : now (e .1 .1 .1 .1 .0) ≡ after
 
--- a call of messages::write_no_protocol
+-- a call of declining::write_no_protocol
 pub record WroteNoProtocol (out : List ℕ) (r : ByteCount) (after : List ℕ) : Type 1 where
   pub κs : _
   pub a : _
@@ -88,7 +88,7 @@ pub record WroteNoProtocol (out : List ℕ) (r : ByteCount) (after : List ℕ) :
   pub of-out : now (a .0) ≡ out
   pub of-exit : now (e .0) ≡ after
 
--- a call of messages::write_no_algorithm with a protocol
+-- a call of declining::write_no_algorithm with a protocol
 pub record WroteNoAlgorithm (p : NextProtocol) (out : List ℕ) (r : ByteCount) (after : List ℕ) : Type 1 where
   pub κs : _
   pub a : _
@@ -98,7 +98,7 @@ pub record WroteNoAlgorithm (p : NextProtocol) (out : List ℕ) (r : ByteCount) 
   pub of-out : now (a .1 .0) ≡ out
   pub of-exit : now (e .1 .0) ≡ after
 
--- a call of messages::write_error with a code
+-- a call of declining::write_error with a code
 pub record WroteError (c : ErrorCode) (out : List ℕ) (r : ByteCount) (after : List ℕ) : Type 1 where
   pub κs : _
   pub a : _
@@ -163,7 +163,7 @@ module _ (x : Plan) (tray server out : List ℕ) (k : ℕ) (after : List ℕ) (w
   wrote-reply : Wrote (fitted (length out) (replyChecked x server (cookiesIn (x .used) tray))) (messageOf (replyRecords x server (cookiesOf x tray))) out (Bytes k) after
   wrote-reply = rw (← w .of-plan, ← w .of-tray, ← w .of-server, ← w .of-out, ← w .of-exit) (w .met)
 
-  -- a call of messages::write_reply that wrote k bytes left them in the output; and a call of reply::KeyExchangeResponse::parse on them,
+  -- a call of outgoing::write_reply that wrote k bytes left them in the output; and a call of reply::KeyExchangeResponse::parse on them,
   -- whatever follows them, under every limit that is k or more, with a table that has room for the cookies, accepts, and hands out the plan's
   -- protocol and algorithm, the server's name and the port if they are planned, keep-alive as planned, and the tray's cookies in their order
   pub reply-read-back : (k ≤ length after)
@@ -199,7 +199,7 @@ module _ (protocols algorithms tray : List ℕ) (used : ℕ) (out : List ℕ) (k
   wrote-request : Wrote (fitted (length out) (requestChecked protocols algorithms (namesIn used tray))) (messageOf (requestRecords protocols algorithms (namesOf used tray))) out (Bytes k) after
   wrote-request = rw (← w .of-protocols, ← w .of-algorithms, ← w .of-tray, ← w .of-used, ← w .of-out, ← w .of-exit) (w .met)
 
-  -- a call of messages::write_request that wrote k bytes left them in the output; and a call of request::Request::parse on them, whatever
+  -- a call of outgoing::write_request that wrote k bytes left them in the output; and a call of request::Request::parse on them, whatever
   -- follows them, under every limit that is k or more, with a table that has room for the names, accepts a key-exchange request, and hands out
   -- the protocols, the algorithms and the tray's names, each in their order
   pub request-read-back : (k ≤ length after)
@@ -250,14 +250,14 @@ reply-refused-back i m out after k y w l law =
           (law t n (roomOf table) (omega (arith, s .long))),
     )
 
--- what a call of messages::write_no_protocol wrote, the reply reader's call refuses with 13 and nothing beside it, at its end record's place
+-- what a call of declining::write_no_protocol wrote, the reply reader's call refuses with 13 and nothing beside it, at its end record's place
 pub no-protocol-read-back : (out : List ℕ) (k : ℕ) (after : List ℕ) → WroteNoProtocol out (Bytes k) after
     → RefusedBack k after (record { number = 13; beside = nothing; place = 4 })
 no-protocol-read-back out k after w =
     reply-refused-back 8 (messageOf noProtocolRecords) out after k _ (rw (← w .of-out, ← w .of-exit) (w .met)) length-no-protocol
     (λ t n room h. no-protocol-read t n room h)
 
--- what a call of messages::write_no_algorithm wrote, with whatever protocol: with 14 and nothing beside it, at its end record's place
+-- what a call of declining::write_no_algorithm wrote, with whatever protocol: with 14 and nothing beside it, at its end record's place
 pub no-algorithm-read-back : (p : NextProtocol) (out : List ℕ) (k : ℕ) (after : List ℕ) → WroteNoAlgorithm p out (Bytes k) after
     → RefusedBack k after (record { number = 14; beside = nothing; place = 10 })
 no-algorithm-read-back p out k after w =
@@ -265,7 +265,7 @@ no-algorithm-read-back p out k after w =
     (length-no-algorithm (p .0))
     (λ t n room h. no-algorithm-read t n room (p .0) h)
 
--- what a call of messages::write_error wrote: with 11 and beside it the code, at the error record, which is the first
+-- what a call of declining::write_error wrote: with 11 and beside it the code, at the error record, which is the first
 pub error-read-back : (c : ErrorCode) (out : List ℕ) (k : ℕ) (after : List ℕ) → WroteError c out (Bytes k) after
     → RefusedBack k after (record { number = 11; beside = code (c .0); place = 0 })
 error-read-back c out k after w =

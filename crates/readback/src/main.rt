@@ -113,7 +113,7 @@ fn read_written(answer: ByteCount, out: &[u8], table: &mut [u16]) {
 
 fn run(tray: &mut [u8], out: &mut [u8], table: &mut [u16]) {
     let plan = with_cookies(tray);
-    let answer = messages::write_reply(plan, tray, &NAME, out);
+    let answer = outgoing::write_reply(plan, tray, &NAME, out);
     read_written(answer, out, table);
 }
 

@@ -34,7 +34,7 @@ pub extern "C" fn ntske_write_no_protocol(out: &mut [u8], written: &mut [usize])
     if written.len() < 1 {
         return NO_ROOM;
     }
-    let answer = messages::write_no_protocol(out);
+    let answer = declining::write_no_protocol(out);
     cells::give_count(answer, written)
 }
 
@@ -50,7 +50,7 @@ pub extern "C" fn ntske_write_no_algorithm(
     if written.len() < 1 {
         return NO_ROOM;
     }
-    let answer = messages::write_no_algorithm(NextProtocol(protocol), out);
+    let answer = declining::write_no_algorithm(NextProtocol(protocol), out);
     cells::give_count(answer, written)
 }
 
@@ -62,7 +62,7 @@ pub extern "C" fn ntske_write_error(code: u16, out: &mut [u8], written: &mut [us
     if written.len() < 1 {
         return NO_ROOM;
     }
-    let answer = messages::write_error(ErrorCode(code), out);
+    let answer = declining::write_error(ErrorCode(code), out);
     cells::give_count(answer, written)
 }
 
@@ -85,7 +85,7 @@ pub extern "C" fn ntske_write_support(
     if 7 < asked {
         return NO_VALUE;
     }
-    let answer = messages::write_support(asked_of(asked), pairs, protocols, out);
+    let answer = supporting::write_support(asked_of(asked), pairs, protocols, out);
     cells::give_count(answer, written)
 }
 
@@ -105,7 +105,7 @@ pub extern "C" fn ntske_support_length(
     if 7 < asked {
         return NO_VALUE;
     }
-    let answer = messages::support_length(asked_of(asked), pairs, protocols);
+    let answer = supporting::support_length(asked_of(asked), pairs, protocols);
     cells::give_count(answer, length)
 }
 
@@ -125,7 +125,7 @@ pub extern "C" fn ntske_write_request(
     if written.len() < 1 {
         return NO_ROOM;
     }
-    let answer = messages::write_request(protocols, algorithms, tray, used, out);
+    let answer = outgoing::write_request(protocols, algorithms, tray, used, out);
     cells::give_count(answer, written)
 }
 
@@ -144,7 +144,7 @@ pub extern "C" fn ntske_request_length(
     if length.len() < 1 {
         return NO_ROOM;
     }
-    let answer = messages::request_length(protocols, algorithms, tray, used);
+    let answer = outgoing::request_length(protocols, algorithms, tray, used);
     cells::give_count(answer, length)
 }
 

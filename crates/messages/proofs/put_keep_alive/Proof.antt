@@ -2,12 +2,12 @@
 -- Assumes nothing.
 use borrow.Author.Needs.{needs}
 use Rattle.record.specs.Write.{wordOf}
-use Rattle.messages.proofs.Putting.{asked-record, not-asked, asked-room}
+use Rattle.messages.proofs.Putting.{asked-record, not-asked}
 use Rattle.messages.proofs.put_keep_alive.Statement.{statement}
 use Rattle.messages.proofs.put_keep_alive.Tie as tie
 
 put-empty-requires : tie.Need-put-empty-requires
-put-empty-requires c κs = asked-room _ _ _ (c .before .if1 .taken) (c .before .before .before .pre)
+put-empty-requires c κs = search needs
 
 same-length : tie.Need-same-length
 same-length c = search needs

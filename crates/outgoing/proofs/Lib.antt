@@ -1,0 +1,4 @@
+pub mod Judging
+pub mod Laid
+pub mod Laying
+pub mod Same

@@ -1,0 +1,3 @@
+pub mod Judging
+pub mod Laid
+pub mod Same

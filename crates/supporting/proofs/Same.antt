@@ -1,0 +1,14 @@
+-- Any two results that meet a public function's contract are the same, and so are the outputs they leave: one theorem a function, over the
+-- contract itself.
+-- Assumes nothing.
+use mathlib.Core.Path.{_≡_, sym, _∙_}
+use denote.Ref.{now}
+use Rattle.record.proofs.Apart.{count-apart, wrote-same}
+use Rattle.supporting.proofs.write_support.Reads as write-support
+use Rattle.supporting.proofs.support_length.Reads as support-length
+
+pub write-support-same : (κs : _) (a : _) (r r′ : _) (e e′ : _) → write-support.Learnt κs a r e → write-support.Learnt κs a r′ e′ → (r ≡ r′) × (now (e .1 .1 .1 .0) ≡ now (e′ .1 .1 .1 .0))
+write-support-same κs a r r′ e e′ p q = wrote-same p q
+
+pub support-length-same : (κs : _) (a : _) (r r′ : _) (e e′ : _) → support-length.Learnt κs a r e → support-length.Learnt κs a r′ e′ → r ≡ r′
+support-length-same κs a r r′ e e′ p q = count-apart r r′ (p ∙ sym q)
