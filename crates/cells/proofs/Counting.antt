@@ -6,8 +6,8 @@ use Prim.Native.Nat.{ℕ, _<_, _≤_}
 use lib.ListN.{length}
 use Rattle.wire.proofs.Over.{over-none}
 use Rattle.nts.specs.Refusal.{Beside}
-use Rattle.record.specs.Write.{Count, refused, fitted, leftBy, toldCount, Wrote}
-use Rattle.record.specs.declared.write.ByteCount.{ByteCount}
+use Rattle.layout.specs.Write.{Count, refused, fitted, leftBy, toldCount, Wrote}
+use Rattle.layout.specs.declared.ByteCount.{ByteCount}
 use Rattle.cells.specs.Cells.{countNumber, countCells, Gives, Writes}
 use Rattle.cells.proofs.Lent.{few-so, few-not, gives-few, gives, gives-same}
 

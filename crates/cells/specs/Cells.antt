@@ -8,7 +8,7 @@ use mathlib.Core.Bool.{Bool, cond}
 use lib.ListN.{length, getD}
 use lib.Dec.{ltb}
 use Rattle.wire.specs.Over.{over}
-use Rattle.record.specs.Write.{Count, bytes, refused, leftBy}
+use Rattle.layout.specs.Write.{Count, bytes, refused, leftBy}
 
 -- ---- an answer
 

@@ -1,7 +1,7 @@
 // What the calls share that a host in C or Rust links: numbers and slices, thin over the other crates. Each call returns 0, or the number of a refusal
 // by document 01, and answers into cells that the host lends: 10, before all else and with nothing changed, where there are too few of them.
 use record::ByteCount;
-ghost use Rattle.record.specs.Write.{toldCount};
+ghost use Rattle.layout.specs.Write.{toldCount};
 ghost use Rattle.cells.specs.Cells.{countNumber, countCells, Gives};
 
 // The refusals that the calls give of their own.

@@ -3,7 +3,7 @@
 -- Assumes nothing.
 use mathlib.Core.Path.{_≡_}
 use denote.Ref.{now}
-use Rattle.record.proofs.Apart.{wrote-same}
+use Rattle.layout.proofs.Apart.{wrote-same}
 use Rattle.declining.proofs.write_no_protocol.Reads as write-no-protocol
 use Rattle.declining.proofs.write_no_algorithm.Reads as write-no-algorithm
 use Rattle.declining.proofs.write_error.Reads as write-error

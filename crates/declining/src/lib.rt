@@ -5,7 +5,7 @@ use nts::NtsError;
 use record::ByteCount;
 use record::NtsRecord;
 ghost use lib.ListN.{length};
-ghost use Rattle.record.specs.Write.{bytes, fitted, Wrote};
+ghost use Rattle.layout.specs.Write.{bytes, fitted, Wrote};
 ghost use Rattle.messages.specs.Messages.{messageOf, noProtocolRecords, noAlgorithmRecords, errorRecords};
 
 // The reply to a client with which no protocol is common.

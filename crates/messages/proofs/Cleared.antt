@@ -13,8 +13,8 @@ use Rattle.wire.specs.Over.{over, bytesOf}
 use Rattle.wire.proofs.Over.{length-over}
 use Rattle.utf8.specs.Utf8.{wellFormed}
 use Rattle.nts.specs.Refusal.{Beside, nothing}
-use Rattle.record.specs.Write.{Count, bytes, refused, fitted, leftBy, Wrote}
-use Rattle.record.specs.declared.write.ByteCount.the-variants as count
+use Rattle.layout.specs.Write.{Count, bytes, refused, fitted, leftBy, Wrote}
+use Rattle.layout.specs.declared.ByteCount.the-variants as count
 use Rattle.walk.specs.Message.{flat}
 use Rattle.walk.proofs.Reorder.{flat-append}
 use Rattle.plan.specs.Tray.{Fields, broken, fields, bytesIn}

@@ -13,9 +13,9 @@ use lib.Seq.{length-take-le, take-suc, take-all}
 use Rattle.wire.specs.Over.{bytesOf, Put, Tried}
 use Rattle.wire.proofs.Over.{length-over, over-none, put-as, put-then, tried-not, tried-put, try-then}
 use Rattle.nts.specs.declared.NtsError.{NtsError}
-use Rattle.record.specs.Write.{header, Count, bytes, toldCount, fitted, leftBy, Wrote}
-use Rattle.record.specs.declared.write.ByteCount.{ByteCount}
-use Rattle.record.specs.declared.write.ByteCount.the-variants as count
+use Rattle.layout.specs.Write.{header, Count, bytes, toldCount, fitted, leftBy, Wrote}
+use Rattle.layout.specs.declared.ByteCount.{ByteCount}
+use Rattle.layout.specs.declared.ByteCount.the-variants as count
 use Rattle.walk.specs.Message.{flat}
 use Rattle.messages.specs.Messages.{recordOf, shortRecord, cellBytes, ifAsked}
 use Rattle.messages.proofs.Cleared.{length-cells}

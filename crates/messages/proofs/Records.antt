@@ -12,10 +12,10 @@ use lib.Seq.{take-all}
 use Rattle.wire.specs.Bytes.{numberAt}
 use Rattle.wire.specs.Over.{bytesOf}
 use Rattle.wire.proofs.Bytes.{number-back, number-drop}
+use Rattle.layout.specs.Write.{wordOf, header}
+use Rattle.layout.specs.declared.Shape.{Shape}
+use Rattle.layout.specs.declared.Shape.the-variants.{Skipped}
 use Rattle.record.specs.Record.{kind, critical, size, there}
-use Rattle.record.specs.Write.{wordOf, header}
-use Rattle.record.specs.declared.Shape.{Shape}
-use Rattle.record.specs.declared.Shape.the-variants.{Skipped}
 use Rattle.record.proofs.Trip.{word-kind, word-bit, good-faultless}
 use Rattle.record.proofs.Trip as trip
 use Rattle.walk.specs.Walk.{ends, notes, Reader, faultIn, actIn}

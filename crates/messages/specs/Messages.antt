@@ -8,7 +8,7 @@ use lib.Dec.{ltb, eqb}
 use Rattle.wire.specs.Over.{bytesOf}
 use Rattle.utf8.specs.Utf8.{wellFormed}
 use Rattle.nts.specs.Refusal.{nothing}
-use Rattle.record.specs.Write.{wordOf, header, Count, bytes, refused}
+use Rattle.layout.specs.Write.{wordOf, header, Count, bytes, refused}
 use Rattle.walk.specs.Message.{flat}
 use Rattle.plan.specs.Tray.{Fields, broken, fields, bytesIn}
 use Rattle.plan.specs.Plan.{nameLength, replyLength}

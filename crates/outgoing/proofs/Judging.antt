@@ -10,7 +10,7 @@ use lib.ListN.{length}
 use Rattle.wire.specs.Bytes.{numberAt, partAt}
 use Rattle.utf8.specs.Utf8.{wellFormed}
 use Rattle.nts.specs.Refusal.{Beside, nothing}
-use Rattle.record.specs.Write.{bytes, refused}
+use Rattle.layout.specs.Write.{bytes, refused}
 use Rattle.plan.specs.Tray.{fields, fieldsIn, cookiesIn, namesIn, bytesIn}
 use Rattle.plan.specs.Code.{none, whole, counted}
 use Rattle.plan.specs.Plan.{nameLength, planLength}

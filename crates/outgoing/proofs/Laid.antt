@@ -16,7 +16,7 @@ use Rattle.plan.specs.declared.NameLength.the-variants as name
 use Rattle.plan.specs.declared.Port.{Port}
 use Rattle.plan.specs.declared.Port.the-variants as port
 use Rattle.messages.specs.Messages.{recordWith, shortRecord, serverRecord, portRecord}
-use Rattle.record.specs.Write.{wordOf}
+use Rattle.layout.specs.Write.{wordOf}
 use Rattle.messages.proofs.Putting.{tried-none, short-tried, one-record}
 
 -- a name's record where one is planned, and a port's

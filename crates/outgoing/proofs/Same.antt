@@ -3,7 +3,7 @@
 -- Assumes nothing.
 use mathlib.Core.Path.{_≡_, sym, _∙_}
 use denote.Ref.{now}
-use Rattle.record.proofs.Apart.{count-apart, wrote-same}
+use Rattle.layout.proofs.Apart.{count-apart, wrote-same}
 use Rattle.outgoing.proofs.write_reply.Reads as write-reply
 use Rattle.outgoing.proofs.write_request.Reads as write-request
 use Rattle.outgoing.proofs.request_length.Reads as request-length

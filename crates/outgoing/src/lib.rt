@@ -13,7 +13,7 @@ ghost use mathlib.Core.Bool.{false};
 ghost use Prim.Native.Nat.{ℕ, _+_, _*_, _≤_};
 ghost use lib.ListN.{length};
 ghost use Rattle.wire.specs.Over.{Put, Tried};
-ghost use Rattle.record.specs.Write.{fitted, toldCount, Wrote};
+ghost use Rattle.layout.specs.Write.{fitted, toldCount, Wrote};
 ghost use Rattle.walk.specs.Message.{flat};
 ghost use Rattle.plan.specs.Tray.{fields, fieldsIn, cookiesIn, namesIn, bytesIn};
 ghost use Rattle.plan.specs.Plan.{nameRecord, keepAliveRecord, replyLength};

@@ -1,7 +1,7 @@
 -- What the code holds of a kind of which one record may stand.
 use mathlib.Core.List.{List, [], _∷_}
 use mathlib.Core.Bool.{true, false}
-use Rattle.record.specs.declared.Part.{Part}
+use Rattle.layout.specs.declared.Part.{Part}
 use Rattle.walk.specs.Walk.{Sighting}
 use Rattle.walk.specs.Judge.{partOf}
 use Rattle.places.specs.declared.Slot.{Slot}

@@ -9,7 +9,7 @@ use borrow.Author.Tests.{lt-ltb, le-ltb, ltb-false}
 use lib.Dec.{ltb}
 use lib.ListN.{length}
 use Rattle.nts.specs.Refusal.{nothing}
-use Rattle.record.specs.Write.{bytes, refused}
+use Rattle.layout.specs.Write.{bytes, refused}
 use Rattle.plan.specs.Tray.{Fields, broken, fields, fieldsIn, cookiesIn, atMost, bytesIn}
 use Rattle.plan.specs.Code.{none, whole, counted}
 use Rattle.plan.specs.Plan.{nameRecord, portRecord, keepAliveRecord, replyLength, lengthBy, planLength}

@@ -6,7 +6,7 @@ use Prim.Native.Nat.{ℕ, _+_, _*_, _≤_}
 use native.Mathlib.Omega.{arith}
 use lib.ListN.{length}
 use Rattle.nts.specs.Refusal.{Beside, nothing}
-use Rattle.record.specs.Write.{bytes, refused}
+use Rattle.layout.specs.Write.{bytes, refused}
 use Rattle.plan.specs.Tray.{Fields, broken, fields, fieldsIn, cookiesIn, namesIn, bytesIn}
 use Rattle.plan.specs.Code.{none, whole, counted}
 use Rattle.plan.specs.Plan.{replyLength, lengthBy, planLength}

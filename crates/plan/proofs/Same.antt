@@ -3,7 +3,7 @@
 -- Assumes nothing.
 use mathlib.Core.Path.{_≡_, sym, _∙_}
 use denote.Ref.{now}
-use Rattle.record.proofs.Apart.{count-apart}
+use Rattle.layout.proofs.Apart.{count-apart}
 use Rattle.plan.proofs.Apart.{tally-apart, appended-apart}
 use Rattle.plan.proofs.Plan.new.Reads as new
 use Rattle.plan.proofs.Plan.set_port.Reads as set-port

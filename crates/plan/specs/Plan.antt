@@ -10,7 +10,7 @@ use Rattle.wire.specs.Over.{over}
 use Rattle.nts.specs.Refusal.{numberOf, Beside, nothing, besideOf}
 use Rattle.nts.specs.declared.NextProtocol.{NextProtocol}
 use Rattle.nts.specs.declared.AeadAlgorithm.{AeadAlgorithm}
-use Rattle.record.specs.Write.{Count, bytes, refused}
+use Rattle.layout.specs.Write.{Count, bytes, refused}
 use Rattle.plan.specs.Tray.{Fields, broken, fields, cookiesIn, fieldBytes, bytesIn}
 use Rattle.plan.specs.declared.Plan.{Plan}
 use Rattle.plan.specs.declared.Port.{Port}

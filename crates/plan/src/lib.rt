@@ -10,7 +10,7 @@ ghost use Prim.Native.Nat.{_+_, _*_, _<_, _≤_, _^_};
 ghost use mathlib.Core.List.{[], _∷_};
 ghost use lib.ListN.{length};
 ghost use Rattle.wire.specs.Over.{bytesOf, Put};
-ghost use Rattle.record.specs.Write.{toldCount};
+ghost use Rattle.layout.specs.Write.{toldCount};
 ghost use Rattle.plan.specs.Tray.{fieldsIn, cookiesIn, fieldBytes};
 ghost use Rattle.plan.specs.Code.{counted, toldTally};
 ghost use Rattle.plan.specs.Plan.{started, withPort, withName, withKeepAlive, nameRecord, portRecord, keepAliveRecord, planLength, Appends};

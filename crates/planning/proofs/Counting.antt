@@ -4,8 +4,8 @@ use mathlib.Core.Path.{_≡_, subst}
 use mathlib.Core.List.{List}
 use Prim.Native.Nat.{ℕ, _≤_}
 use lib.ListN.{length}
-use Rattle.record.specs.Write.{fitted, toldCount, Wrote}
-use Rattle.record.specs.declared.write.ByteCount.{ByteCount}
+use Rattle.layout.specs.Write.{fitted, toldCount, Wrote}
+use Rattle.layout.specs.declared.ByteCount.{ByteCount}
 use Rattle.plan.specs.Tray.{cookiesIn}
 use Rattle.plan.specs.declared.Plan.{Plan}
 use Rattle.messages.specs.Messages.{bodiesOf, messageOf, replyChecked, replyRecords}

@@ -7,7 +7,7 @@ use lib.ListN.{length}
 use lib.Dec.{leb, eqb}
 use Rattle.wire.specs.Over.{over}
 use Rattle.nts.specs.Refusal.{nothing}
-use Rattle.record.specs.Write.{Count, refused, fitted}
+use Rattle.layout.specs.Write.{Count, refused, fitted}
 use Rattle.plan.specs.Tray.{cookiesIn}
 use Rattle.plan.specs.Plan as plan
 use Rattle.plan.specs.declared.Plan.{Plan}

@@ -15,19 +15,20 @@ use Rattle.utf8.proofs.Tests.{on}
 use Rattle.wire.specs.Over.{over, bytesOf}
 use Rattle.wire.proofs.Bytes.{number-back}
 use Rattle.nts.specs.Refusal.{nothing}
+use Rattle.layout.specs.Write.{wordOf, header, recordBytes, Count, bytes, refused, toldCount, measured, fitted, written, leftBy, Wrote}
+use Rattle.layout.specs.declared.Layout.{Layout}
+use Rattle.layout.specs.declared.ByteCount.{ByteCount}
+use Rattle.layout.specs.declared.ByteCount.the-variants.{Bytes}
+use Rattle.layout.proofs.Apart.{count-apart}
+use Rattle.layout.proofs.Writing.{length-body, measured-long}
 use Rattle.record.specs.Record.{kindOf, criticalOf, kind, critical, Seen, read, readAt}
 use Rattle.record.specs.Told.{toldRecord, toldParsed}
-use Rattle.record.specs.Write.{layoutOf, wordOf, header, recordBytes, Count, bytes, refused, toldCount, measured, fitted, written, leftBy, Wrote}
+use Rattle.record.specs.Laid.{layoutOf}
 use Rattle.record.specs.Shown.{shown, bitOf, canonical}
 use Rattle.record.specs.declared.NtsRecord.{NtsRecord}
 use Rattle.record.specs.declared.Reading.{Reading}
 use Rattle.record.specs.declared.Parsed.{Parsed}
 use Rattle.record.specs.declared.Parsed.the-variants.{Read, Refused}
-use Rattle.record.specs.declared.write.Layout.{Layout}
-use Rattle.record.specs.declared.write.ByteCount.{ByteCount}
-use Rattle.record.specs.declared.write.ByteCount.the-variants.{Bytes}
-use Rattle.record.proofs.Apart.{count-apart}
-use Rattle.record.proofs.Writing.{length-body, measured-long}
 use Rattle.record.proofs.Trip as trip
 use Rattle.record.proofs.NtsRecord.serialize.Reads as serialize
 use Rattle.record.proofs.NtsRecord.length.Reads as measure

@@ -15,9 +15,9 @@ use Rattle.wire.proofs.Bytes.{number-back}
 use Rattle.utf8.specs.Utf8.{wellFormed}
 use Rattle.utf8.proofs.Tests.{and-left, and-right}
 use Rattle.nts.specs.Refusal.{Beside, nothing, code}
+use Rattle.layout.specs.Write.{header}
+use Rattle.layout.specs.declared.Shape.the-variants.{Skipped, Numbers, Number, Bytes, Name}
 use Rattle.record.specs.Record.{shapeOf}
-use Rattle.record.specs.Write.{header}
-use Rattle.record.specs.declared.Shape.the-variants.{Skipped, Numbers, Number, Bytes, Name}
 use Rattle.walk.specs.Walk.{ends, refuses, Reader, Sighting}
 use Rattle.walk.specs.Judge.{no, yes, Judge, some, bodyIn, refused, accepted, readBy}
 use Rattle.walk.specs.Message.{Each, flat, Shows}

@@ -16,9 +16,9 @@ use Rattle.nts.specs.Refusal.{Refused, nothing, code, toldRefusal}
 use Rattle.nts.specs.declared.Refusal.{Refusal}
 use Rattle.nts.specs.declared.NextProtocol.{NextProtocol}
 use Rattle.nts.specs.declared.ErrorCode.{ErrorCode}
-use Rattle.record.specs.Write.{bytes, fitted, Wrote}
-use Rattle.record.specs.declared.write.ByteCount.{ByteCount}
-use Rattle.record.specs.declared.write.ByteCount.the-variants.{Bytes}
+use Rattle.layout.specs.Write.{bytes, fitted, Wrote}
+use Rattle.layout.specs.declared.ByteCount.{ByteCount}
+use Rattle.layout.specs.declared.ByteCount.the-variants.{Bytes}
 use Rattle.walk.specs.Walk.{Sighting}
 use Rattle.walk.specs.Judge.{refused, accepted}
 use Rattle.places.specs.Places.{roomOf}

@@ -10,7 +10,7 @@ use Rattle.wire.specs.Over.{over}
 use Rattle.wire.proofs.Over.{over-none}
 use Rattle.nts.specs.Refusal.{Refused, toldRefusal}
 use Rattle.nts.specs.declared.Refusal.{Refusal}
-use Rattle.record.specs.declared.Part.{Part}
+use Rattle.layout.specs.declared.Part.{Part}
 use Rattle.walk.specs.Walk.{Sighting}
 use Rattle.walk.specs.Judge.{bodyIn, partOf, refused, accepted}
 use Rattle.walk.specs.Judge as judge

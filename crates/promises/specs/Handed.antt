@@ -3,7 +3,7 @@ use Prim.Native.Nat.{ℕ}
 use mathlib.Core.List.{List}
 use mathlib.Core.Bool.{Bool}
 use Rattle.wire.specs.Bytes.{partAt}
-use Rattle.record.specs.declared.Part.{Part}
+use Rattle.layout.specs.declared.Part.{Part}
 use Rattle.request.specs.declared.Request.{Request}
 use Rattle.request.specs.declared.Request.the-variants.{KeyExchange, FixedKey, Support}
 use Rattle.places.specs.Places.{entriesFrom}

@@ -2,7 +2,7 @@
 use Prim.Native.Nat.{ℕ}
 use mathlib.Core.List.{List}
 use mathlib.Core.Bool.{Bool}
-use Rattle.record.specs.declared.Part.{Part}
+use Rattle.layout.specs.declared.Part.{Part}
 use Rattle.places.specs.Places.{entriesFrom}
 use Rattle.reply.specs.Reply.{Sent, mapSent, toldServer, toldPort}
 use Rattle.reply.specs.declared.KeyExchangeResponse.{KeyExchangeResponse}

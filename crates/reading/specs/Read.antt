@@ -5,8 +5,8 @@ use mathlib.Core.Path.{_≡_}
 use mathlib.Core.List.{List, [], _∷_}
 use mathlib.Core.Bool.{cond}
 use Rattle.nts.specs.Refusal.{Beside, nothing, code, Refused}
+use Rattle.layout.specs.declared.Part.{Part}
 use Rattle.record.specs.Record as rec
-use Rattle.record.specs.declared.Part.{Part}
 use Rattle.places.specs.Places.{roomOf}
 use Rattle.request.specs.Request as request
 use Rattle.reply.specs.Reply as reply

@@ -1,18 +1,16 @@
 -- What is told of an answer tells any two answers apart: it can be turned back into the answer.
 -- Assumes nothing.
-use mathlib.Core.Path.{_≡_, refl, sym, ap, _∙_}
+use mathlib.Core.Path.{_≡_, refl, ap}
 use mathlib.Core.Bool.{cond}
-use mathlib.Core.List.{List}
 use Prim.Native.Nat.{ℕ}
 use native.Mathlib.Omega.{arith}
 use lib.Dec.{eqb}
-use Rattle.nts.proofs.Apart.{apart, error-apart, refusal-apart}
-use Rattle.nts.specs.Refusal.{numberOf, besideOf, toldRefusal}
+use Rattle.nts.proofs.Apart.{apart, refusal-apart}
+use Rattle.nts.specs.Refusal.{toldRefusal}
+use Rattle.layout.specs.declared.Part.{Part}
 use Rattle.record.specs.Record.{Value, skipped, number, part, halves, unknown, Seen, read}
 use Rattle.record.specs.Entry as entry
 use Rattle.record.specs.Told.{toldRecord, toldParsed, toldProtocol, toldAlgorithm, toldPair}
-use Rattle.record.specs.Write.{Count, toldCount, Wrote}
-use Rattle.record.specs.declared.Part.{Part}
 use Rattle.record.specs.declared.Cursor.{Cursor}
 use Rattle.record.specs.declared.NtsRecord.{NtsRecord}
 use Rattle.record.specs.declared.NtsRecord.the-variants.{EndOfMessage, NextProtocol, Error, Warning, AeadAlgorithm, NewCookie, Server, Port, KeepAlive, SupportedNextProtocolList, SupportedAlgorithmList, FixedKeyRequest, NtpServerDeny, Authentication, Unknown}
@@ -24,8 +22,6 @@ use Rattle.record.specs.declared.AlgorithmAt.{AlgorithmAt}
 use Rattle.record.specs.declared.AlgorithmAt.the-variants as algorithm-at
 use Rattle.record.specs.declared.DescriptionAt.{DescriptionAt}
 use Rattle.record.specs.declared.DescriptionAt.the-variants as description-at
-use Rattle.record.specs.declared.write.ByteCount.{ByteCount}
-use Rattle.record.specs.declared.write.ByteCount.the-variants as count
 
 -- ---- a record
 
@@ -133,17 +129,3 @@ pair-back (description-at.Description d) = refl
 
 pub pair-apart : (x y : DescriptionAt) → toldPair x ≡ toldPair y → x ≡ y
 pair-apart = apart toldPair pair-from pair-back
-
--- ---- what a writer answers, and leaves
-
-pub count-apart : (x y : ByteCount) → toldCount x ≡ toldCount y → x ≡ y
-count-apart (count.Bytes m) (count.Bytes n) e = let t : m ≡ n = cc in ap count.Bytes t
-count-apart (count.Bytes m) (count.Refused y) e = let z : _≡_ {A = ℕ} 0 1 = cc in absurd (omega arith)
-count-apart (count.Refused x) (count.Bytes n) e = let z : _≡_ {A = ℕ} 0 1 = cc in absurd (omega arith)
-count-apart (count.Refused x) (count.Refused y) e =
-    let t : numberOf x ≡ numberOf y = cc in
-    let u : besideOf x ≡ besideOf y = cc in
-    ap count.Refused (error-apart x y t u)
-
-pub wrote-same : {a : Count} {b o o′ o″ : List ℕ} {r q : ByteCount} → Wrote a b o r o′ → Wrote a b o q o″ → (r ≡ q) × (o′ ≡ o″)
-wrote-same {a} {b} {o} {o′} {o″} {r} {q} x y = (count-apart r q (x .says ∙ sym (y .says)), x .left ∙ sym (y .left))

@@ -1,7 +1,6 @@
 pub mod Mask
 pub mod Read
 pub mod Entry
-pub mod Writing
 pub mod Apart
 pub mod Same
 pub mod Inverse

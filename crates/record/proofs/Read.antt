@@ -12,8 +12,8 @@ use lib.Dec.{eqb}
 use lib.Seq.{take-all}
 use Rattle.wire.specs.Bytes.{numberAt}
 use Rattle.nts.specs.Refusal.{nothing}
+use Rattle.layout.specs.declared.Shape.{Shape}
 use Rattle.record.specs.Record.{kindOf, criticalOf, kind, critical, size, there, shapeOf, faultOf, fault, Seen, seenOf, read, refused, readFrom, readAt, endOf}
-use Rattle.record.specs.declared.Shape.{Shape}
 
 -- all that follows a header is what is there of a body that is short
 pub there-all : (s : List ℕ) (n : ℕ) → length s - 4 < n → take (length s - 4) (drop 4 s) ≡ take n (drop 4 s)

@@ -2,9 +2,8 @@
 -- Assumes nothing.
 use mathlib.Core.Path.{_≡_, sym, _∙_}
 use denote.Ref.{now}
-use Rattle.wire.proofs.Over.{tried-same}
-use Rattle.record.proofs.Apart.{cursor-apart, parsed-apart, protocol-apart, algorithm-apart, pair-apart, count-apart, wrote-same}
-use Rattle.record.proofs.Part.of.Reads as of
+use Rattle.layout.proofs.Apart.{count-apart, wrote-same}
+use Rattle.record.proofs.Apart.{cursor-apart, parsed-apart, protocol-apart, algorithm-apart, pair-apart}
 use Rattle.record.proofs.NtsRecord.parse.Reads as parse
 use Rattle.record.proofs.NtsRecord.serialize.Reads as serialize
 use Rattle.record.proofs.NtsRecord.length.Reads as length
@@ -14,10 +13,6 @@ use Rattle.record.proofs.end_of.Reads as end-of
 use Rattle.record.proofs.protocol_at.Reads as protocol-at
 use Rattle.record.proofs.algorithm_at.Reads as algorithm-at
 use Rattle.record.proofs.description_at.Reads as description-at
-use Rattle.record.proofs.write.put_header.Reads as put-header
-
-pub Part-of-same : (κs : _) (a : _) (r r′ : _) (e e′ : _) → of.Learnt κs a r e → of.Learnt κs a r′ e′ → now r ≡ now r′
-Part-of-same κs a r r′ e e′ p q = p ∙ sym q
 
 pub NtsRecord-parse-same : (κs : _) (a : _) (r r′ : _) (e e′ : _) → parse.Learnt κs a r e → parse.Learnt κs a r′ e′ → r ≡ r′
 NtsRecord-parse-same κs a r r′ e e′ p q = parsed-apart r r′ (p ∙ sym q)
@@ -46,6 +41,3 @@ NtsRecord-length-same κs a r r′ e e′ p q = count-apart r r′ (p ∙ sym q)
 -- a writer's output afterwards is among what the contract determines
 pub NtsRecord-serialize-same : (κs : _) (a : _) (r r′ : _) (e e′ : _) → serialize.Learnt κs a r e → serialize.Learnt κs a r′ e′ → (r ≡ r′) × (now (e .1 .1 .0) ≡ now (e′ .1 .1 .0))
 NtsRecord-serialize-same κs a r r′ e e′ p q = wrote-same p q
-
-pub put-header-same : (κs : _) (a : _) (r r′ : _) (e e′ : _) → put-header.Learnt κs a r e → put-header.Learnt κs a r′ e′ → (r ≡ r′) × (now (e .1 .1 .0) ≡ now (e′ .1 .1 .0))
-put-header-same κs a r r′ e e′ p q = tried-same p q

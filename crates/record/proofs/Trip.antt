@@ -18,19 +18,20 @@ use Rattle.wire.specs.Bytes.{numberAt, partAt}
 use Rattle.wire.specs.Over.{bytesOf}
 use Rattle.wire.proofs.Bytes.{number-back, number-drop, length-part, part-empty, part-between, part-join, part-at, bytes-back}
 use Rattle.nts.specs.Refusal.{nothing}
+use Rattle.layout.specs.Write.{isUnknown, isSound, isRecord, isNumber, bodySize, bodyOf, wordOf, header, recordBytes, bytes, measured}
+use Rattle.layout.specs.declared.Part.{Part}
+use Rattle.layout.specs.declared.Shape.{Shape}
+use Rattle.layout.specs.declared.Shape.the-variants as shape
+use Rattle.layout.specs.declared.Layout.{Layout}
+use Rattle.layout.proofs.Writing.{sound, sound-record, length-body, just-long, measured-long}
 use Rattle.record.specs.Record.{kindOf, criticalOf, kind, critical, size, there, shapeOf, short, uneven, notNumber, notHalves, notUtf8, firstOf, notName, faultOf, fault, Value, skipped, number, part, halves, unknown, valueOf, Seen, seenOf, read, refused, readFrom, readAt}
 use Rattle.record.specs.Told.{valueOfRecord, toldRecord}
-use Rattle.record.specs.Write.{none, laid, laidNumber, layoutOf, isUnknown, isSound, isRecord, isNumber, bodySize, bodyOf, wordOf, header, recordBytes, bytes, measured}
+use Rattle.record.specs.Laid.{none, laid, laidNumber, layoutOf}
 use Rattle.record.specs.Shown.{heldIn, shown, bitOf, canonical}
 use Rattle.record.specs.Shown as held
-use Rattle.record.specs.declared.Part.{Part}
-use Rattle.record.specs.declared.Shape.{Shape}
-use Rattle.record.specs.declared.Shape.the-variants as shape
 use Rattle.record.specs.declared.NtsRecord.{NtsRecord}
 use Rattle.record.specs.declared.NtsRecord.the-variants as r
-use Rattle.record.specs.declared.write.Layout.{Layout}
 use Rattle.record.proofs.Read.{faultless}
-use Rattle.record.proofs.Writing.{sound, sound-record, length-body, just-long, measured-long}
 
 -- ---- a body without a fault
 

@@ -1,5 +1,5 @@
 pub mod Record
 pub mod Told
 pub mod Entry
-pub mod Write
+pub mod Laid
 pub mod Shown

@@ -8,8 +8,8 @@ use lib.Dec.{leb, ltb, eqb}
 use Rattle.wire.specs.Bytes.{numberAt}
 use Rattle.utf8.specs.Utf8.{wellFormed}
 use Rattle.nts.specs.Refusal.{Refused, nothing}
-use Rattle.record.specs.declared.Shape.{Shape}
-use Rattle.record.specs.declared.Shape.the-variants.{Skipped, Numbers, Number, Bytes, Name, Pairs, Halves, Unknown}
+use Rattle.layout.specs.declared.Shape.{Shape}
+use Rattle.layout.specs.declared.Shape.the-variants.{Skipped, Numbers, Number, Bytes, Name, Pairs, Halves, Unknown}
 
 -- ---- the header: two bytes of type word, two of body size
 

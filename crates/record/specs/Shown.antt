@@ -6,9 +6,9 @@ use lib.ListN.{drop}
 use lib.Dec.{eqb}
 use Rattle.wire.specs.Bytes.{partAt}
 use Rattle.wire.specs.Over.{bytesOf}
+use Rattle.layout.specs.Write.{isUnknown, wordOf}
 use Rattle.record.specs.Record.{kind, critical, Value, Seen}
 use Rattle.record.specs.Record as value
-use Rattle.record.specs.Write.{isUnknown, wordOf}
 
 pub data Held : Type 0 where
   nothing : Held

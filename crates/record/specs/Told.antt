@@ -1,9 +1,9 @@
 -- What each case of an answer says, by 01's numbers: a record's kind and values, a refusal's number and place, an entry of a list.
 use Prim.Native.Nat.{ℕ}
 use Rattle.nts.specs.Refusal.{toldRefusal}
+use Rattle.layout.specs.declared.Part.{Part}
 use Rattle.record.specs.Record.{Value, skipped, number, part, halves, unknown, Seen, Told, read, refused}
 use Rattle.record.specs.Entry as entry
-use Rattle.record.specs.declared.Part.{Part}
 use Rattle.record.specs.declared.NtsRecord.{NtsRecord}
 use Rattle.record.specs.declared.NtsRecord.the-variants.{EndOfMessage, NextProtocol, Error, Warning, AeadAlgorithm, NewCookie, Server, Port, KeepAlive, SupportedNextProtocolList, SupportedAlgorithmList, FixedKeyRequest, NtpServerDeny, Authentication, Unknown}
 use Rattle.record.specs.declared.Parsed.{Parsed}

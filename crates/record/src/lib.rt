@@ -1,6 +1,11 @@
 // One record of the NTS key exchange: what it can be, how it is read and how it is written (the crate's src/nts/record.rs).
 mod write;
 
+pub use layout::ByteCount;
+use layout::Layout;
+pub use layout::Part;
+use layout::Shape;
+pub use layout::put_header;
 use nts::AeadAlgorithm;
 use nts::AlgorithmDescription;
 use nts::ErrorCode;
@@ -8,8 +13,6 @@ use nts::NextProtocol;
 use nts::NtsError;
 use nts::Refusal;
 use nts::WarningCode;
-pub use write::ByteCount;
-pub use write::put_header;
 ghost use mathlib.Core.Path.{_≡_};
 ghost use Prim.Native.Nat.{_+_, _/_, _<_, _≤_, _^_};
 ghost use lib.ListN.{length, take, drop};
@@ -17,21 +20,6 @@ ghost use Rattle.wire.specs.Bytes.{partAt};
 ghost use Rattle.record.specs.Record.{kindOf, criticalOf, shapeOf, short, uneven, notNumber, notHalves, notUtf8, firstOf, notName, faultOf, seenOf, readAt, endOf};
 ghost use Rattle.record.specs.Entry.{numberIn, pairIn};
 ghost use Rattle.record.specs.Told.{toldFault, toldRecord, toldParsed, toldNumber, toldProtocol, toldAlgorithm, toldPair};
-
-// Some bytes of a lent message: where they start in it, and how many there are.
-pub struct Part {
-    pub start: usize,
-    pub len: usize,
-}
-
-impl Part {
-    // The bytes themselves; none where the part is not inside the message.
-    pub fn of(self, message: &[u8]) -> &[u8]
-        ensures { λ r. ⌜ now r ≡ partAt (now (message .entry)) (self .start) (self .len) ⌝ }
-    {
-        wire::part(message, self.start, self.len)
-    }
-}
 
 // A record, as the crate's NtsRecord; bodies, names and keys are parts of the message that it was read from.
 pub enum NtsRecord {
@@ -73,18 +61,6 @@ pub struct Reading {
 pub enum Parsed {
     Read(Reading),
     Refused(Refusal),
-}
-
-// What a body holds: 01's table, by kind.
-pub enum Shape {
-    Skipped,
-    Numbers,
-    Number,
-    Bytes,
-    Name,
-    Pairs,
-    Halves,
-    Unknown,
 }
 
 // What is wrong with a body.
@@ -139,7 +115,7 @@ impl NtsRecord {
     pub const SUPPORTED_ALGORITHM_LIST: u16 = 10;
 
     // The one number below the last known kind that no kind has.
-    pub const KIND_WITHOUT_NAME: u16 = 11;
+    pub const KIND_WITHOUT_NAME: u16 = Layout::KIND_WITHOUT_NAME;
 
     pub const FIXED_KEY_REQUEST: u16 = 12;
 
@@ -148,11 +124,11 @@ impl NtsRecord {
     pub const AUTHENTICATION: u16 = 14;
 
     // The type word's masks, and the header's length.
-    pub const CRITICAL_BIT: u16 = 0x8000;
+    pub const CRITICAL_BIT: u16 = Layout::CRITICAL_BIT;
 
-    pub const KIND_BITS: u16 = 0x7FFF;
+    pub const KIND_BITS: u16 = Layout::KIND_BITS;
 
-    pub const HEADER: usize = 4;
+    pub const HEADER: usize = Layout::HEADER;
 
     // The record at a place of a message, or its first fault at that place. A place past the end is 1 there.
     pub fn parse(message: &[u8], at: usize) -> Parsed

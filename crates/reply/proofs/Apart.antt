@@ -6,7 +6,7 @@ use Prim.Native.Nat.{ℕ}
 use native.Mathlib.Omega.{arith}
 use Rattle.nts.specs.Refusal.{toldRefusal}
 use Rattle.nts.proofs.Apart.{apart, refusal-apart}
-use Rattle.record.specs.declared.Part.{Part}
+use Rattle.layout.specs.declared.Part.{Part}
 use Rattle.reply.specs.Reply.{Sent, sent, notSent, Told, replyIs, refusedWith, toldServer, toldPort, toldReply, toldAnswer}
 use Rattle.reply.specs.declared.KeyExchangeResponse.{KeyExchangeResponse}
 use Rattle.reply.specs.declared.Server.{Server}

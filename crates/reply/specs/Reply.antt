@@ -8,7 +8,7 @@ use lib.Dec.{ltb, eqb}
 use Rattle.wire.specs.Bytes.{numberAt}
 use Rattle.wire.specs.Over.{over}
 use Rattle.nts.specs.Refusal.{nothing, code, Refused, toldRefusal}
-use Rattle.record.specs.declared.Part.{Part}
+use Rattle.layout.specs.declared.Part.{Part}
 use Rattle.walk.specs.Walk.{Act, notes, refuses, Reader, Sighting}
 use Rattle.walk.specs.Judge as judge
 use Rattle.walk.specs.Judge.{Verdict, no, yes, Judge, some, withFirst, bodyIn, partOf, readBy}

@@ -8,7 +8,7 @@ use lib.Dec.{ltb, eqb}
 use Rattle.wire.specs.Bytes.{numberAt, partAt}
 use Rattle.nts.specs.Refusal.{nothing, toldRefusal}
 use Rattle.nts.specs.declared.NtsError.{NtsError}
-use Rattle.record.specs.declared.Part.{Part}
+use Rattle.layout.specs.declared.Part.{Part}
 use Rattle.record.specs.declared.NtsRecord.{NtsRecord}
 use Rattle.record.specs.declared.NtsRecord.the-variants.{EndOfMessage, NextProtocol, Error, Warning, AeadAlgorithm, NewCookie, Server, Port, KeepAlive, SupportedNextProtocolList, SupportedAlgorithmList, FixedKeyRequest, NtpServerDeny, Authentication, Unknown}
 use Rattle.record.specs.declared.Parsed.{Parsed}

@@ -5,7 +5,7 @@ use Prim.Native.Nat.{ℕ}
 use native.Mathlib.Omega.{arith}
 use Rattle.nts.proofs.Apart.{apart, refusal-apart}
 use Rattle.nts.specs.Refusal.{toldRefusal}
-use Rattle.record.specs.declared.Part.{Part}
+use Rattle.layout.specs.declared.Part.{Part}
 use Rattle.request.specs.Request.{Told, keyExchangeIs, fixedKeyIs, supportIs, refusedWith, toldRequest, toldAnswer}
 use Rattle.request.specs.declared.Request.{Request}
 use Rattle.request.specs.declared.Request.the-variants.{KeyExchange, FixedKey, Support}

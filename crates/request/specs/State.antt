@@ -10,7 +10,7 @@ use Rattle.wire.specs.Bytes.{numberAt}
 use Rattle.nts.specs.Refusal.{Beside, nothing, code, Refused, numberOf, besideOf, toldRefusal}
 use Rattle.nts.specs.Algorithm.{Described, known, unknown, describe}
 use Rattle.nts.specs.declared.NtsError.{NtsError}
-use Rattle.record.specs.declared.Part.{Part}
+use Rattle.layout.specs.declared.Part.{Part}
 use Rattle.record.specs.declared.NtsRecord.{NtsRecord}
 use Rattle.record.specs.declared.NtsRecord.the-variants.{EndOfMessage, NextProtocol, Error, Warning, AeadAlgorithm, NewCookie, Server, Port, KeepAlive, SupportedNextProtocolList, SupportedAlgorithmList, FixedKeyRequest, NtpServerDeny, Authentication, Unknown}
 use Rattle.record.specs.declared.Parsed.{Parsed}

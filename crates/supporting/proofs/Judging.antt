@@ -8,7 +8,7 @@ use native.Mathlib.Omega.{arith}
 use borrow.Author.Tests.{ltb-false, eq-eqb, ne-eqb}
 use lib.ListN.{length}
 use Rattle.nts.specs.Refusal.{nothing}
-use Rattle.record.specs.Write.{bytes, refused}
+use Rattle.layout.specs.Write.{bytes, refused}
 use Rattle.messages.specs.declared.Asked.{Asked}
 use Rattle.messages.specs.Messages.{tooLong, recordLength, supportLength, supportChecked}
 

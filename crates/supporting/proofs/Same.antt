@@ -3,7 +3,7 @@
 -- Assumes nothing.
 use mathlib.Core.Path.{_≡_, sym, _∙_}
 use denote.Ref.{now}
-use Rattle.record.proofs.Apart.{count-apart, wrote-same}
+use Rattle.layout.proofs.Apart.{count-apart, wrote-same}
 use Rattle.supporting.proofs.write_support.Reads as write-support
 use Rattle.supporting.proofs.support_length.Reads as support-length
 

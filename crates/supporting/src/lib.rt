@@ -9,7 +9,7 @@ ghost use mathlib.Core.Bool.{false, _&&_};
 ghost use Prim.Native.Nat.{_*_, _<_, _≤_, _^_};
 ghost use lib.ListN.{length};
 ghost use Rattle.wire.specs.Over.{Put, Tried};
-ghost use Rattle.record.specs.Write.{fitted, toldCount, Wrote};
+ghost use Rattle.layout.specs.Write.{fitted, toldCount, Wrote};
 ghost use Rattle.walk.specs.Message.{flat};
 ghost use Rattle.messages.specs.Messages.{recordOf, cellBytes, ifAsked, messageOf, tooLong, supportRecords, recordLength, supportLength, supportChecked};
 

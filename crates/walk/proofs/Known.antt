@@ -8,9 +8,9 @@ use native.Mathlib.Nat.{not-suc-le-zero, le-of-suc-le-suc, eq-or-lt-of-le}
 use native.Mathlib.Omega.{arith}
 use lib.Dec.{ltb, eqb}
 use borrow.Author.Tests.{ltb-true, ltb-false, lt-leb, ne-eqb}
+use Rattle.layout.specs.declared.Shape.{Shape}
+use Rattle.layout.specs.declared.Shape.the-variants.{Skipped, Numbers, Number, Bytes, Name, Pairs, Halves, Unknown}
 use Rattle.record.specs.Record.{shapeOf}
-use Rattle.record.specs.declared.Shape.{Shape}
-use Rattle.record.specs.declared.Shape.the-variants.{Skipped, Numbers, Number, Bytes, Name, Pairs, Halves, Unknown}
 use Rattle.walk.specs.Table.{known}
 
 pub unknown-shape : (k : ℕ) → known k ≡ false → shapeOf k ≡ Unknown

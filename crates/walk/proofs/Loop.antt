@@ -11,9 +11,9 @@ use lib.ListN.{length, drop, length-drop, length-append}
 use lib.Seq.{drop-drop}
 use lib.Dec.{eqb}
 use Rattle.nts.specs.Refusal.{nothing, Refused}
+use Rattle.layout.specs.declared.Part.{Part}
 use Rattle.record.specs.Record.{kind, critical, size, there, fault, Seen, seenOf, read, refused, readFrom, readAt, endOf}
 use Rattle.record.specs.Told.{toldRecord}
-use Rattle.record.specs.declared.Part.{Part}
 use Rattle.record.specs.declared.NtsRecord.{NtsRecord}
 use Rattle.record.proofs.Inverse.{WasRead, read-was, refused-was, ended-was}
 use Rattle.walk.specs.Walk.{Act, Reader, Sighting, Outcome, stopped, ended, Step, stops, goes, judge, step, faultIn, walk}

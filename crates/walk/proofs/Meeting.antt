@@ -7,9 +7,9 @@ use Prim.Native.Nat.{ℕ, _+_}
 use native.Mathlib.Omega.{arith}
 use lib.Dec.{eqb}
 use Rattle.nts.specs.Refusal.{nothing, Refused}
+use Rattle.layout.specs.declared.Part.{Part}
 use Rattle.record.specs.Record.{kind, critical, size, there, shapeOf, fault, Value, part, valueOf, seenOf}
 use Rattle.record.specs.Told.{toldRecord, kindOfRecord, valueOfRecord}
-use Rattle.record.specs.declared.Part.{Part}
 use Rattle.record.specs.declared.NtsRecord.{NtsRecord}
 use Rattle.record.proofs.Inverse.{seen-kind, seen-value}
 use Rattle.walk.specs.Walk.{Act, Sighting, stopped, stops, goes, has, meet, judge, step, faultIn, actIn}

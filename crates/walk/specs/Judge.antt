@@ -6,7 +6,7 @@ use mathlib.Core.Bool.{Bool, true, false, cond}
 use lib.ListN.{length, take, drop}
 use lib.Dec.{eqb}
 use Rattle.nts.specs.Refusal.{Beside, Refused}
-use Rattle.record.specs.declared.Part.{Part}
+use Rattle.layout.specs.declared.Part.{Part}
 use Rattle.walk.specs.Walk.{Reader, Sighting, Outcome, stopped, ended, walk}
 
 -- refused with a number, or accepted with contents of the form Q over the bodies

@@ -6,8 +6,8 @@ use mathlib.Core.Bool.{Bool, true, false, cond, _&&_, _||_}
 use lib.ListN.{length}
 use lib.Dec.{ltb, eqb}
 use Rattle.nts.specs.Refusal.{Beside, nothing, Refused}
+use Rattle.layout.specs.declared.Shape.{Shape}
 use Rattle.record.specs.Record.{kind, critical, size, there, faultOf}
-use Rattle.record.specs.declared.Shape.{Shape}
 
 -- ---- a reader is a table by kind
 

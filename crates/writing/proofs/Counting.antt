@@ -7,9 +7,10 @@ use Prim.Native.Nat.{ℕ, _<_, _≤_}
 use borrow.Author.Tests.{le-leb, lt-leb}
 use lib.ListN.{length}
 use Rattle.nts.specs.Refusal.{nothing}
-use Rattle.record.specs.Write.{Count, refused, fitted, measured, layoutOf, recordBytes, toldCount, Wrote}
+use Rattle.layout.specs.Write.{Count, refused, fitted, measured, recordBytes, toldCount, Wrote}
+use Rattle.layout.specs.declared.ByteCount.{ByteCount}
+use Rattle.record.specs.Laid.{layoutOf}
 use Rattle.record.specs.declared.NtsRecord.{NtsRecord}
-use Rattle.record.specs.declared.write.ByteCount.{ByteCount}
 use Rattle.messages.specs.Messages.{messageOf, supportRecords, supportChecked}
 use Rattle.messages.specs.declared.Asked.{Asked}
 use Rattle.cells.specs.Cells.{countNumber, countCells, Gives, Writes}

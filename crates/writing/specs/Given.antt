@@ -5,8 +5,9 @@ use mathlib.Core.Bool.{Bool, cond, _&&_}
 use lib.ListN.{length}
 use lib.Dec.{leb, eqb}
 use Rattle.nts.specs.Refusal.{nothing}
-use Rattle.record.specs.Write.{Count, refused, layoutOf, measured, recordBytes}
-use Rattle.record.specs.declared.Part.{Part}
+use Rattle.layout.specs.Write.{Count, refused, measured, recordBytes}
+use Rattle.layout.specs.declared.Part.{Part}
+use Rattle.record.specs.Laid.{layoutOf}
 use Rattle.record.specs.declared.NtsRecord.{NtsRecord}
 use Rattle.record.specs.declared.NtsRecord.the-variants as r
 use Rattle.messages.specs.Messages.{supportChecked}

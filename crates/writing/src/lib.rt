@@ -10,7 +10,7 @@ use record::NtsRecord;
 use record::Part;
 ghost use mathlib.Core.Path.{_≡_};
 ghost use lib.ListN.{length};
-ghost use Rattle.record.specs.Write.{bytes, fitted};
+ghost use Rattle.layout.specs.Write.{bytes, fitted};
 ghost use Rattle.plan.specs.Tray.{namesIn};
 ghost use Rattle.messages.specs.Messages.{messageOf, bodiesOf, noProtocolRecords, noAlgorithmRecords, errorRecords, supportRecords, requestRecords, requestChecked};
 ghost use Rattle.cells.specs.Cells.{countNumber, countCells, Gives, Writes};

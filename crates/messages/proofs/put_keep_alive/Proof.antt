@@ -1,7 +1,7 @@
 -- `messages::put_keep_alive` meets its contract: the test is the definition's.
 -- Assumes nothing.
 use borrow.Author.Needs.{needs}
-use Rattle.record.specs.Write.{wordOf}
+use Rattle.layout.specs.Write.{wordOf}
 use Rattle.messages.proofs.Putting.{asked-record, not-asked}
 use Rattle.messages.proofs.put_keep_alive.Statement.{statement}
 use Rattle.messages.proofs.put_keep_alive.Tie as tie

@@ -2,7 +2,7 @@
 -- Assumes nothing.
 use borrow.Author.Needs.{needs}
 use mathlib.Core.Path.{sym, ap, _∙_}
-use Rattle.record.specs.Write.{toldCount}
+use Rattle.layout.specs.Write.{toldCount}
 use Rattle.outgoing.proofs.Judging.{reply-broken, reply-other, reply-ill, reply-bare, reply-judged}
 use Rattle.outgoing.proofs.check_reply.Statement.{statement}
 use Rattle.outgoing.proofs.check_reply.Tie as tie

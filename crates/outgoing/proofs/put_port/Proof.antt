@@ -1,7 +1,7 @@
 -- `outgoing::put_port` meets its contract: each arm knows whether a port is planned.
 -- Assumes nothing.
 use borrow.Author.Needs.{needs}
-use Rattle.record.specs.Write.{wordOf}
+use Rattle.layout.specs.Write.{wordOf}
 use Rattle.outgoing.proofs.Laid.{port-record, no-port}
 use Rattle.outgoing.proofs.put_port.Statement.{statement}
 use Rattle.outgoing.proofs.put_port.Tie as tie

@@ -10,7 +10,7 @@ use Prim.Native.Nat.{ℕ, _+_, _*_}
 use lib.ListN.{length}
 use Rattle.wire.specs.Over.{bytesOf}
 use Rattle.wire.proofs.Over.{put-as, rest-room, put-then, try-then}
-use Rattle.record.specs.Write.{wordOf}
+use Rattle.layout.specs.Write.{wordOf}
 use Rattle.plan.specs.Plan.{replyLength}
 use Rattle.plan.proofs.Counting.{cookies-are}
 use Rattle.messages.specs.Messages.{recordWith, ifAsked, endRecord, messageOf, serverRecord, portRecord, replyRecords}

@@ -8,7 +8,7 @@ use mathlib.Core.List.{List, map}
 use mathlib.Core.Bool.{true, false}
 use Prim.Native.Nat.{ℕ}
 use Rattle.wire.proofs.Over.{put-as, rest-room, put-then, try-then}
-use Rattle.record.specs.Write.{wordOf}
+use Rattle.layout.specs.Write.{wordOf}
 use Rattle.plan.specs.Tray.{namesIn}
 use Rattle.messages.specs.Messages.{recordWith, cellBytes, endRecord, messageOf, requestRecords, requestLength}
 use Rattle.messages.proofs.Putting.{list-tried}

@@ -2,7 +2,7 @@
 -- Assumes nothing.
 use borrow.Author.Needs.{needs}
 use native.Mathlib.Omega.{arith}
-use Rattle.record.specs.Write.{wordOf}
+use Rattle.layout.specs.Write.{wordOf}
 use Rattle.outgoing.proofs.Laid.{server-record, no-server}
 use Rattle.outgoing.proofs.put_server.Statement.{statement}
 use Rattle.outgoing.proofs.put_server.Tie as tie

@@ -5,7 +5,7 @@ use mathlib.Core.Path.{sym, ap, _∙_}
 use denote.Ref.{now}
 use native.Mathlib.Omega.{arith}
 use Rattle.wire.proofs.Over.{put-as}
-use Rattle.record.specs.Write.{toldCount}
+use Rattle.layout.specs.Write.{toldCount}
 use Rattle.plan.specs.Tray.{Fields}
 use Rattle.messages.specs.Messages.{bodiesOf, messageOf, replyRecords}
 use Rattle.messages.proofs.Putting.{judged-no, judged-short, judged-room}

@@ -5,7 +5,7 @@ use mathlib.Core.Path.{refl}
 use native.Mathlib.Omega.{arith}
 use denote.Ref.{now}
 use Rattle.wire.proofs.Over.{put-as, try-then}
-use Rattle.record.specs.Write.{wordOf}
+use Rattle.layout.specs.Write.{wordOf}
 use Rattle.messages.specs.Messages.{supportLength}
 use Rattle.supporting.proofs.Laid.{laid-support}
 use Rattle.supporting.proofs.put_support.Statement.{statement}

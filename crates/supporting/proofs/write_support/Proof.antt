@@ -4,7 +4,7 @@ use borrow.Author.Needs.{needs}
 use mathlib.Core.Path.{refl, sym, ap, _∙_}
 use native.Mathlib.Omega.{arith}
 use Rattle.wire.proofs.Over.{put-as}
-use Rattle.record.specs.Write.{toldCount}
+use Rattle.layout.specs.Write.{toldCount}
 use Rattle.messages.proofs.Putting.{judged-no, judged-short, judged-room}
 use Rattle.messages.proofs.Cleared.{support-cleared}
 use Rattle.supporting.proofs.write_support.Statement.{statement}

@@ -4,7 +4,7 @@ use borrow.Author.Needs.{needs}
 use denote.Ref.{now}
 use mathlib.Core.Path.{sym, ap, _∙_}
 use Rattle.nts.specs.Refusal.{nothing}
-use Rattle.record.specs.Write.{written}
+use Rattle.layout.specs.Write.{written}
 use Rattle.writing.specs.Given.{Held, heldLength}
 use Rattle.writing.specs.Code.{toldGiven}
 use Rattle.cells.proofs.Counting.{no-cell, fitted-no, unwritten}
