@@ -2,14 +2,6 @@
 ghost use Prim.Native.Nat.{_<_, _≤_, _^_};
 ghost use lib.ListN.{length};
 
-// Bytes of a case: where they start, how many they are, and where they end; bad where the case ends before.
-pub struct Taken {
-    pub bad: bool,
-    pub start: usize,
-    pub len: usize,
-    pub end: usize,
-}
-
 pub(super) fn number16(s: &[u8], i: usize) -> u16 {
     wire::number_at(s, i)
 }
@@ -30,42 +22,34 @@ pub(super) fn number64(s: &[u8], i: usize) -> usize {
     0
 }
 
-// So many bytes from a place on.
-pub(super) fn take(s: &[u8], at: usize, n: usize) -> Taken {
+// Where so many bytes from a place on end. Where the case ends before them it is a place that no case has, and so is what follows.
+pub(super) fn behind(s: &[u8], at: usize, n: usize) -> usize {
     if at <= s.len() {
         if n <= s.len() - at {
-            return Taken {
-                bad: false,
-                start: at,
-                len: n,
-                end: at + n,
-            };
+            return at + n;
         }
     }
-    Taken {
-        bad: true,
-        start: 0,
-        len: 0,
-        end: 0,
-    }
+    usize::MAX
 }
 
-// A two-byte count, and that many bytes.
-pub(super) fn counted(s: &[u8], at: usize) -> Taken {
-    let count = take(s, at, 2);
-    if count.bad {
-        return count;
-    }
-    take(s, count.end, number16(s, at) as usize)
+// Where a two-byte count and that many bytes end.
+pub(super) fn behind_counted(s: &[u8], at: usize) -> usize {
+    behind(s, behind(s, at, 2), number16(s, at) as usize)
 }
 
-// A two-byte count, and the bytes of that many numbers.
-pub(super) fn counted_numbers(s: &[u8], at: usize) -> Taken {
-    let count = take(s, at, 2);
-    if count.bad {
-        return count;
-    }
-    take(s, count.end, 2 * (number16(s, at) as usize))
+// Where a two-byte count and the bytes of that many numbers end.
+pub(super) fn behind_numbers(s: &[u8], at: usize) -> usize {
+    behind(s, behind(s, at, 2), 2 * (number16(s, at) as usize))
+}
+
+// The bytes that are counted at a place.
+pub(super) fn counted(s: &[u8], at: usize) -> &[u8] {
+    wire::part(rest(s, at), 2, number16(s, at) as usize)
+}
+
+// The bytes of the numbers that are counted at a place.
+pub(super) fn numbers(s: &[u8], at: usize) -> &[u8] {
+    wire::part(rest(s, at), 2, 2 * (number16(s, at) as usize))
 }
 
 // The numbers of some bytes as cells, as far as there are cells: how many.
@@ -96,16 +80,12 @@ pub(super) fn flag(flags: u8, bit: u8) -> bool {
     (flags & bit) == bit
 }
 
-// Whether a case ends behind so many counted bytes.
-pub(super) fn are_counted(s: &[u8], from: usize, count: u8) -> bool {
-    let mut at = from;
+// Whether some bytes are so many counted ones.
+pub(super) fn are_counted(s: &[u8], count: u8) -> bool {
+    let mut at = 0;
     let mut i: u8 = 0;
     while i < count {
-        let one = counted(s, at);
-        if one.bad {
-            return false;
-        }
-        at = one.end;
+        at = behind_counted(s, at);
         i += 1;
     }
     at == s.len()

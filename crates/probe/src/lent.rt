@@ -74,13 +74,17 @@ pub(super) fn put_changed(out: &mut [u8], at: usize, unchanged: bool) -> usize {
     text::put_text(out, at, b" CHANGED")
 }
 
+fn put_front(out: &mut [u8], at: usize, dst: &[u8], n: usize) -> usize {
+    let to = text::put_text(out, at, b"wrote ");
+    text::put_bytes(out, to, wire::part(dst, 0, n))
+}
+
 // What a writer answered and left in an output that was filled for the call; ` CHANGED` where a byte behind what it wrote, or any byte of a
 // refused one, is not as it was lent.
 pub(super) fn put_written(out: &mut [u8], at: usize, dst: &[u8], answer: ByteCount) -> usize {
     match answer {
         ByteCount::Bytes(n) => {
-            let word = text::put_text(out, at, b"wrote ");
-            let to = text::put_bytes(out, word, wire::part(dst, 0, n));
+            let to = put_front(out, at, dst, n);
             put_changed(out, to, is_filled(dst, n))
         }
         ByteCount::Refused(error) => {

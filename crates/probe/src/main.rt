@@ -11,8 +11,13 @@ mod text;
 mod whole;
 mod writing;
 
-use whole::Sort;
 ghost use Prim.Native.Nat.{_<_};
+
+struct Head {
+    on: bool,
+    op: u8,
+    size: usize,
+}
 
 struct Went {
     on: bool,
@@ -29,25 +34,33 @@ fn answer(
     at: usize,
 ) -> usize {
     match op {
-        b'r' => reading::at_front(case, out, at),
-        b'R' => reading::at_place(case, out, at),
-        b'i' => reading::part_of(case, out, at),
-        b'j' => reading::number_of(case, out, at),
-        b'w' => writing::whole_room(case, dst, out, at),
-        b'W' => writing::in_room(case, dst, out, at),
-        b'X' => writing::part_in(case, dst, out, at),
-        b'z' => writing::length_of(case, out, at),
-        b'q' => whole::under(Sort::Request, 4096, case, table, out, at),
-        b'Q' => whole::under(Sort::Request, 65535, case, table, out, at),
-        b'L' => whole::limited(Sort::Request, case, table, out, at),
-        b'y' => whole::under(Sort::Reply, 4096, case, table, out, at),
-        b'l' => whole::limited(Sort::Reply, case, table, out, at),
-        b'g' => choosing::of_lists(case, out, at),
+        b'q' | b'Q' | b'L' | b'y' | b'l' => whole::answer(op, case, table, out, at),
+        b'w' | b'W' | b'X' => writing::answer(op, case, dst, out, at),
+        b'n' | b'k' | b'a' | b'p' | b'P' => sent(op, case, dst, out, at),
+        _ => read(op, case, out, at),
+    }
+}
+
+// .. of a whole message that is written.
+fn sent(op: u8, case: &[u8], dst: &mut [u8], out: &mut [u8], at: usize) -> usize {
+    match op {
         b'n' => sending::reply(case, dst, out, at),
         b'k' => sending::request(case, dst, out, at),
         b'a' => plans::appended(case, dst, out, at),
         b'p' => plans::of_calls(case, dst, out, at),
-        b'P' => plans::of_hand(case, dst, out, at),
+        _ => plans::of_hand(case, dst, out, at),
+    }
+}
+
+// .. of an op to which nothing is lent.
+fn read(op: u8, case: &[u8], out: &mut [u8], at: usize) -> usize {
+    match op {
+        b'r' => reading::at_front(case, out, at),
+        b'R' => reading::at_place(case, out, at),
+        b'i' => reading::part_of(case, out, at),
+        b'j' => reading::number_of(case, out, at),
+        b'z' => writing::length_of(case, out, at),
+        b'g' => choosing::of_lists(case, out, at),
         _ => text::bad_case(out, at),
     }
 }
@@ -79,33 +92,61 @@ fn skip(buf: &mut [u8], size: usize) -> bool {
     io::read_full(0, &mut buf[0..left]) == left
 }
 
-// One case: its op, its length and its payload are read, and its line is put behind what is to print.
-fn turn(buf: &mut [u8], dst: &mut [u8], table: &mut [u16], out: &mut [u8], used: usize) -> Went {
-    let mut head = [0u8; 5];
-    if io::read_full(0, &mut head) < 5 {
-        return Went { on: false, used };
+// The op and the length of a case; off where the input ends inside them.
+fn read_head() -> Head {
+    let mut bytes = [0u8; 5];
+    let got = io::read_full(0, &mut bytes);
+    Head {
+        on: got == 5,
+        op: bytes[0],
+        size: case::number32(&bytes, 1),
     }
-    let n = case::number32(&head, 1);
-    if buf.len() < n {
-        if skip(buf, n) {
-            let end = text::bad_case(out, used);
-            let line = text::put(out, end, 10);
-            return Went {
-                on: true,
-                used: flush(out, line, out.len() / 2),
-            };
-        }
-        return Went { on: false, used };
-    }
-    if io::read_full(0, &mut buf[0..n]) < n {
-        return Went { on: false, used };
-    }
-    let to = answer(head[0], &buf[0..n], dst, table, out, used);
-    let end = text::put(out, to, 10);
+}
+
+// A line ends: all of it is behind what is to print.
+fn ended(out: &mut [u8], at: usize) -> Went {
+    let end = text::put(out, at, 10);
     Went {
         on: true,
         used: flush(out, end, out.len() / 2),
     }
+}
+
+// The line of a case that is too long.
+fn too_long(buf: &mut [u8], size: usize, out: &mut [u8], used: usize) -> Went {
+    if skip(buf, size) {
+        let to = text::bad_case(out, used);
+        return ended(out, to);
+    }
+    Went { on: false, used }
+}
+
+// One case: its op, its length and its payload are read, and its line is put behind what is to print.
+fn turn(buf: &mut [u8], dst: &mut [u8], table: &mut [u16], out: &mut [u8], used: usize) -> Went {
+    let h = read_head();
+    if h.on {
+        return answered(h.op, h.size, buf, dst, table, out, used);
+    }
+    Went { on: false, used }
+}
+
+fn answered(
+    op: u8,
+    size: usize,
+    buf: &mut [u8],
+    dst: &mut [u8],
+    table: &mut [u16],
+    out: &mut [u8],
+    used: usize,
+) -> Went {
+    if buf.len() < size {
+        return too_long(buf, size, out, used);
+    }
+    if io::read_full(0, &mut buf[0..size]) < size {
+        return Went { on: false, used };
+    }
+    let to = answer(op, &buf[0..size], dst, table, out, used);
+    ended(out, to)
 }
 
 // How many turns are left: none once the input has ended.

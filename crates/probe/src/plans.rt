@@ -27,24 +27,22 @@ pub struct Made {
 
 // Op a: the tray's used length, a cookie behind its four-byte length, and the tray.
 pub(super) fn appended(case: &[u8], dst: &mut [u8], out: &mut [u8], at: usize) -> usize {
-    let sizes = case::take(case, 0, 8);
-    let used = case::number32(case, 0);
-    let cookie = case::take(case, sizes.end, case::number32(case, 4));
-    if sizes.bad | cookie.bad {
-        return text::bad_case(out, at);
+    let size = case::number32(case, 4);
+    let end = case::behind(case, case::behind(case, 0, 8), size);
+    let lent = case::rest(case, end);
+    if end <= case.len() {
+        if lent.len() <= dst.len() {
+            return put_appended(
+                case::number32(case, 0),
+                wire::part(case, 8, size),
+                lent,
+                &mut dst[0..lent.len()],
+                out,
+                at,
+            );
+        }
     }
-    let lent = case::rest(case, cookie.end);
-    if dst.len() < lent.len() {
-        return text::bad_case(out, at);
-    }
-    put_appended(
-        used,
-        wire::part(case, cookie.start, cookie.len),
-        lent,
-        &mut dst[0..lent.len()],
-        out,
-        at,
-    )
+    text::bad_case(out, at)
 }
 
 fn put_appended(
@@ -63,13 +61,17 @@ fn put_appended(
 
 fn put_step(step: Step, tray: &[u8], out: &mut [u8], at: usize) -> usize {
     if step.refused == 0 {
-        let number = text::put_number(out, at, b"used ", step.plan.used as u64);
-        let blank = text::put(out, number, b' ');
-        let to = text::put_bytes(out, blank, tray);
+        let to = put_tray(out, at, step.plan.used, tray);
         return lent::put_changed(out, to, step.intact);
     }
     let to = text::put_number(out, at, b"refused ", step.refused as u64);
     lent::put_changed(out, to, step.intact)
+}
+
+fn put_tray(out: &mut [u8], at: usize, used: usize, tray: &[u8]) -> usize {
+    let number = text::put_number(out, at, b"used ", used as u64);
+    let blank = text::put(out, number, b' ');
+    text::put_bytes(out, blank, tray)
 }
 
 fn with_used(plan: Plan, used: usize) -> Plan {
@@ -188,75 +190,81 @@ fn put_reply(
 
 // Op P: a plan and a name, the output's room, the tray's used length, and the tray.
 pub(super) fn of_hand(case: &[u8], dst: &mut [u8], out: &mut [u8], at: usize) -> usize {
-    let name = case::counted(case, 9);
-    let room = case::take(case, name.end, 4);
-    let used = case::take(case, room.end, 4);
-    if name.bad | room.bad | used.bad | (7 < wire::byte_at(case, 4)) {
-        return text::bad_case(out, at);
-    }
-    let size = case::number32(case, room.start);
-    if dst.len() < size {
-        return text::bad_case(out, at);
-    }
-    let tray = case::rest(case, used.end);
-    put_reply(
-        by_hand(case, case::number32(case, used.start)),
-        tray,
-        wire::part(case, name.start, name.len),
-        &mut dst[0..size],
-        out,
-        at,
-    )
-}
-
-// Op p: a plan and a name, the rooms of tray and output, and the cookies behind their number.
-pub(super) fn of_calls(case: &[u8], dst: &mut [u8], out: &mut [u8], at: usize) -> usize {
-    let mut tray = [0u8; 66000];
-    let name = case::counted(case, 9);
-    let lent = case::take(case, name.end, 4);
-    let room = case::take(case, lent.end, 4);
-    let count = case::take(case, room.end, 1);
-    if name.bad | lent.bad | room.bad | count.bad | (7 < wire::byte_at(case, 4)) {
-        return text::bad_case(out, at);
-    }
-    let tray_size = case::number32(case, lent.start);
-    let size = case::number32(case, room.start);
-    if dst.len() < size {
-        return text::bad_case(out, at);
-    }
-    if tray.len() < tray_size {
-        return text::bad_case(out, at);
-    }
-    let cookies = wire::byte_at(case, count.start);
-    if case::are_counted(case, count.end, cookies) {
-        let server = wire::part(case, name.start, name.len);
-        return put_made(
-            case,
-            count.end,
-            cookies,
-            server,
-            &mut tray[0..tray_size],
-            &mut dst[0..size],
-            out,
-            at,
-        );
+    let sizes = behind_name(case);
+    let room = case::number32(sizes, 0);
+    if 8 <= sizes.len() {
+        if room <= dst.len() {
+            return put_reply(
+                by_hand(case, case::number32(sizes, 4)),
+                case::rest(sizes, 8),
+                case::counted(case, 9),
+                &mut dst[0..room],
+                out,
+                at,
+            );
+        }
     }
     text::bad_case(out, at)
 }
 
-// The reply of a plan to which the cookies are appended, or the first refusal.
-fn put_made(
+// What is behind a plan and a name; nothing where the case has no plan or no name.
+fn behind_name(case: &[u8]) -> &[u8] {
+    if 7 < wire::byte_at(case, 4) {
+        return &case[0..0];
+    }
+    case::rest(case, case::behind_counted(case, 9))
+}
+
+// Op p: a plan and a name, the rooms of tray and output, and the cookies behind their number.
+pub(super) fn of_calls(case: &[u8], dst: &mut [u8], out: &mut [u8], at: usize) -> usize {
+    let sizes = behind_name(case);
+    let room = case::number32(sizes, 4);
+    if is_counted(sizes) {
+        if room <= dst.len() {
+            return in_tray(case, sizes, &mut dst[0..room], out, at);
+        }
+    }
+    text::bad_case(out, at)
+}
+
+// Whether two sizes, a number and as many counted bytes are all there is.
+fn is_counted(sizes: &[u8]) -> bool {
+    if sizes.len() < 9 {
+        return false;
+    }
+    case::are_counted(case::rest(sizes, 9), wire::byte_at(sizes, 8))
+}
+
+fn in_tray(case: &[u8], sizes: &[u8], dst: &mut [u8], out: &mut [u8], at: usize) -> usize {
+    let mut tray = [0u8; 66000];
+    let size = case::number32(sizes, 0);
+    if tray.len() < size {
+        return text::bad_case(out, at);
+    }
+    put_calls(case, sizes, &mut tray[0..size], dst, out, at)
+}
+
+fn put_calls(
     case: &[u8],
-    from: usize,
-    count: u8,
-    name: &[u8],
+    sizes: &[u8],
     tray: &mut [u8],
     dst: &mut [u8],
     out: &mut [u8],
     at: usize,
 ) -> usize {
-    lent::fill(tray);
-    let made = append_all(case, from, count, tray);
+    let made = append_all(case, sizes, tray);
+    put_made(made, case::counted(case, 9), tray, dst, out, at)
+}
+
+// The reply of a plan to which the cookies are appended, or the first refusal.
+fn put_made(
+    made: Made,
+    name: &[u8],
+    tray: &[u8],
+    dst: &mut [u8],
+    out: &mut [u8],
+    at: usize,
+) -> usize {
     if made.refused == 0 {
         let plan = made.plan;
         let to = put_reply(plan, tray, name, dst, out, at);
@@ -265,36 +273,43 @@ fn put_made(
     put_refused(out, at, made)
 }
 
-// The counted cookies of a case, one after the other; none after one that is refused.
-fn append_all(case: &[u8], from: usize, count: u8, tray: &mut [u8]) -> Made {
+// The cookies behind the sizes, appended to the plan that the calls make with a tray that is filled for it.
+fn append_all(case: &[u8], sizes: &[u8], tray: &mut [u8]) -> Made {
     let mut before = [0u8; 66000];
+    lent::fill(tray);
+    append_each(
+        by_calls(case),
+        wire::byte_at(sizes, 8),
+        case::rest(sizes, 9),
+        tray,
+        &mut before,
+    )
+}
+
+// So many counted cookies, one after the other; none after one that is refused.
+fn append_each(plan: Plan, count: u8, cookies: &[u8], tray: &mut [u8], before: &mut [u8]) -> Made {
     let mut i: u8 = 0;
     let mut made = Made {
-        plan: by_calls(case),
+        plan,
         refused: 0,
         intact: true,
         cookies: 0,
-        next: from,
+        next: 0,
     };
     while i < count {
-        made = append_next(case, made, tray, &mut before);
+        made = append_next(cookies, made, tray, before);
         i += 1;
     }
     made
 }
 
-fn append_next(case: &[u8], made: Made, tray: &mut [u8], before: &mut [u8]) -> Made {
+fn append_next(cookies: &[u8], made: Made, tray: &mut [u8], before: &mut [u8]) -> Made {
     if made.refused == 0 {
         let plan = made.plan;
-        let cookie = case::counted(case, made.next);
+        let next = made.next;
         lent::copy(tray, before);
-        let step = append(
-            plan,
-            wire::part(case, cookie.start, cookie.len),
-            before,
-            tray,
-        );
-        return after(made, step, cookie.end);
+        let step = append(plan, case::counted(cookies, next), before, tray);
+        return after(made, step, case::behind_counted(cookies, next));
     }
     made
 }
@@ -324,7 +339,13 @@ fn one_more(n: u8) -> u8 {
 }
 
 fn put_refused(out: &mut [u8], at: usize, made: Made) -> usize {
-    let word = text::put_number(out, at, b"append ", made.cookies as u64);
-    let to = text::put_number(out, word, b" refused ", made.refused as u64);
+    let to = text::put_two(
+        out,
+        at,
+        b"append ",
+        made.cookies as u16,
+        b" refused ",
+        made.refused as u16,
+    );
     lent::put_changed(out, to, made.intact)
 }

@@ -92,6 +92,13 @@ fn put_keys(out: &mut [u8], at: usize, message: &[u8], c2s: Part, s2c: Part) -> 
     text::put_bytes(out, to, s2c.of(message))
 }
 
+fn put_bit(out: &mut [u8], at: usize, bit: bool) -> usize {
+    if bit {
+        return text::put_text(out, at, b"c ");
+    }
+    text::put_text(out, at, b"- ")
+}
+
 fn put_unknown(
     out: &mut [u8],
     at: usize,
@@ -102,38 +109,59 @@ fn put_unknown(
 ) -> usize {
     let word = text::put_text(out, at, b"unknown ");
     let number = put_kind(out, word, kind);
-    let mark = if bit { b'c' } else { b'-' };
-    let to = text::put(out, number, mark);
-    let blank = text::put(out, to, b' ');
-    text::put_bytes(out, blank, body.of(message))
+    let to = put_bit(out, number, bit);
+    text::put_bytes(out, to, body.of(message))
+}
+
+fn kind_of(item: NtsRecord) -> u16 {
+    match item {
+        NtsRecord::EndOfMessage => NtsRecord::END_OF_MESSAGE,
+        NtsRecord::NextProtocol(_) => NtsRecord::NEXT_PROTOCOL,
+        NtsRecord::Error(_) => NtsRecord::ERROR,
+        NtsRecord::Warning(_) => NtsRecord::WARNING,
+        NtsRecord::AeadAlgorithm(_) => NtsRecord::AEAD_ALGORITHM,
+        NtsRecord::NewCookie(_) => NtsRecord::NEW_COOKIE,
+        NtsRecord::Server(_) => NtsRecord::SERVER,
+        NtsRecord::Port(_) => NtsRecord::PORT,
+        NtsRecord::KeepAlive => NtsRecord::KEEP_ALIVE,
+        NtsRecord::SupportedNextProtocolList(_) => NtsRecord::SUPPORTED_NEXT_PROTOCOL_LIST,
+        NtsRecord::SupportedAlgorithmList(_) => NtsRecord::SUPPORTED_ALGORITHM_LIST,
+        NtsRecord::FixedKeyRequest { .. } => NtsRecord::FIXED_KEY_REQUEST,
+        NtsRecord::NtpServerDeny(_) => NtsRecord::NTP_SERVER_DENY,
+        NtsRecord::Authentication(_) => NtsRecord::AUTHENTICATION,
+        NtsRecord::Unknown { record_type, .. } => record_type,
+    }
 }
 
 // A record's kind and values.
 fn put_record(out: &mut [u8], at: usize, m: &[u8], item: NtsRecord) -> usize {
+    let kind = kind_of(item);
     match item {
-        NtsRecord::EndOfMessage => text::put_decimal(out, at, NtsRecord::END_OF_MESSAGE as u64),
-        NtsRecord::NextProtocol(p) => put_numbers(out, at, m, NtsRecord::NEXT_PROTOCOL, p),
-        NtsRecord::Error(c) => put_number(out, at, NtsRecord::ERROR, c.0),
-        NtsRecord::Warning(c) => put_number(out, at, NtsRecord::WARNING, c.0),
-        NtsRecord::AeadAlgorithm(p) => put_numbers(out, at, m, NtsRecord::AEAD_ALGORITHM, p),
-        NtsRecord::NewCookie(p) => put_body(out, at, m, NtsRecord::NEW_COOKIE, p),
-        NtsRecord::Server(p) => put_body(out, at, m, NtsRecord::SERVER, p),
-        NtsRecord::Port(n) => put_number(out, at, NtsRecord::PORT, n),
-        NtsRecord::KeepAlive => text::put_decimal(out, at, NtsRecord::KEEP_ALIVE as u64),
-        NtsRecord::SupportedNextProtocolList(p) => {
-            put_numbers(out, at, m, NtsRecord::SUPPORTED_NEXT_PROTOCOL_LIST, p)
-        }
-        NtsRecord::SupportedAlgorithmList(p) => {
-            put_numbers(out, at, m, NtsRecord::SUPPORTED_ALGORITHM_LIST, p)
-        }
+        NtsRecord::NextProtocol(p)
+        | NtsRecord::AeadAlgorithm(p)
+        | NtsRecord::SupportedNextProtocolList(p)
+        | NtsRecord::SupportedAlgorithmList(p) => put_numbers(out, at, m, kind, p),
+        NtsRecord::NewCookie(p)
+        | NtsRecord::Server(p)
+        | NtsRecord::NtpServerDeny(p)
+        | NtsRecord::Authentication(p) => put_body(out, at, m, kind, p),
         NtsRecord::FixedKeyRequest { c2s, s2c } => put_keys(out, at, m, c2s, s2c),
-        NtsRecord::NtpServerDeny(p) => put_body(out, at, m, NtsRecord::NTP_SERVER_DENY, p),
-        NtsRecord::Authentication(p) => put_body(out, at, m, NtsRecord::AUTHENTICATION, p),
         NtsRecord::Unknown {
             record_type,
             critical,
             data,
         } => put_unknown(out, at, m, record_type, critical, data),
+        _ => put_short(out, at, kind, item),
+    }
+}
+
+// .. of a record that holds a number or nothing.
+fn put_short(out: &mut [u8], at: usize, kind: u16, item: NtsRecord) -> usize {
+    match item {
+        NtsRecord::Error(c) => put_number(out, at, kind, c.0),
+        NtsRecord::Warning(c) => put_number(out, at, kind, c.0),
+        NtsRecord::Port(n) => put_number(out, at, kind, n),
+        _ => text::put_decimal(out, at, kind as u64),
     }
 }
 

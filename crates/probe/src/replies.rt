@@ -20,6 +20,19 @@ fn put_port(out: &mut [u8], at: usize, port: Port) -> usize {
     }
 }
 
+fn put_told(
+    out: &mut [u8],
+    at: usize,
+    message: &[u8],
+    name: Server,
+    number: Port,
+    keep_alive: bool,
+) -> usize {
+    let server = put_server(out, at, message, name);
+    let port = put_port(out, server, number);
+    text::put_flag(out, port, b" keep-alive ", keep_alive)
+}
+
 fn put_reply(
     out: &mut [u8],
     at: usize,
@@ -29,12 +42,16 @@ fn put_reply(
 ) -> usize {
     let name = reply.server;
     let number = reply.port;
-    let protocol = text::put_number(out, at, b"reply protocol ", reply.protocol.0 as u64);
-    let algorithm = text::put_number(out, protocol, b" algorithm ", reply.algorithm.0 as u64);
-    let server = put_server(out, algorithm, message, name);
-    let port = put_port(out, server, number);
-    let flag = text::put_flag(out, port, b" keep-alive ", reply.keep_alive);
-    lent::put_entries(out, flag, b" cookies ", message, table, reply.cookies)
+    let chosen = text::put_two(
+        out,
+        at,
+        b"reply protocol ",
+        reply.protocol.0,
+        b" algorithm ",
+        reply.algorithm.0,
+    );
+    let to = put_told(out, chosen, message, name, number, reply.keep_alive);
+    lent::put_entries(out, to, b" cookies ", message, table, reply.cookies)
 }
 
 // A message under a limit, with a table that was filled for the call.

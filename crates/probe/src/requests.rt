@@ -9,6 +9,19 @@ use record::Part;
 use request::Answer;
 use request::Request;
 
+// A word, and a list of a kind.
+fn put_list(
+    out: &mut [u8],
+    at: usize,
+    word: &[u8],
+    kind: u16,
+    message: &[u8],
+    list: Part,
+) -> usize {
+    let to = text::put_text(out, at, word);
+    reading::put_list(kind, out, to, message, list)
+}
+
 fn put_exchange(
     out: &mut [u8],
     at: usize,
@@ -18,10 +31,22 @@ fn put_exchange(
     a: Part,
     denied: usize,
 ) -> usize {
-    let word = text::put_text(out, at, b"key-exchange protocols ");
-    let first = reading::put_list(NtsRecord::NEXT_PROTOCOL, out, word, message, p);
-    let next = text::put_text(out, first, b" algorithms ");
-    let second = reading::put_list(NtsRecord::AEAD_ALGORITHM, out, next, message, a);
+    let first = put_list(
+        out,
+        at,
+        b"key-exchange protocols ",
+        NtsRecord::NEXT_PROTOCOL,
+        message,
+        p,
+    );
+    let second = put_list(
+        out,
+        first,
+        b" algorithms ",
+        NtsRecord::AEAD_ALGORITHM,
+        message,
+        a,
+    );
     lent::put_entries(out, second, b" denied ", message, table, denied)
 }
 
@@ -36,19 +61,26 @@ fn put_fixed(
     p: NextProtocol,
     k: bool,
 ) -> usize {
-    let protocol = text::put_number(out, at, b"fixed-key protocol ", p.0 as u64);
-    let algorithm = text::put_number(out, protocol, b" algorithm ", a.0 as u64);
-    let first = text::put_part(out, algorithm, b" c2s ", m, c);
-    let second = text::put_part(out, first, b" s2c ", m, s);
-    let name = text::put_part(out, second, b" authentication ", m, u);
-    text::put_flag(out, name, b" keep-alive ", k)
+    let numbers = text::put_two(out, at, b"fixed-key protocol ", p.0, b" algorithm ", a.0);
+    let keys = put_keys(out, numbers, m, c, s);
+    put_asking(out, keys, m, u, k)
+}
+
+fn put_keys(out: &mut [u8], at: usize, m: &[u8], c: Part, s: Part) -> usize {
+    let to = text::put_part(out, at, b" c2s ", m, c);
+    text::put_part(out, to, b" s2c ", m, s)
+}
+
+// Who asks, and whether the connection is to be kept.
+fn put_asking(out: &mut [u8], at: usize, m: &[u8], u: Part, k: bool) -> usize {
+    let to = text::put_part(out, at, b" authentication ", m, u);
+    text::put_flag(out, to, b" keep-alive ", k)
 }
 
 fn put_support(out: &mut [u8], at: usize, m: &[u8], u: Part, p: bool, a: bool, k: bool) -> usize {
     let protocols = text::put_flag(out, at, b"support protocols ", p);
     let algorithms = text::put_flag(out, protocols, b" algorithms ", a);
-    let name = text::put_part(out, algorithms, b" authentication ", m, u);
-    text::put_flag(out, name, b" keep-alive ", k)
+    put_asking(out, algorithms, m, u, k)
 }
 
 fn put_request(

@@ -8,45 +8,47 @@ use nts::NextProtocol;
 
 // Op n: the output's room, the sort of reply, and what belongs to it.
 pub(super) fn reply(case: &[u8], dst: &mut [u8], out: &mut [u8], at: usize) -> usize {
-    if case.len() < 5 {
-        return text::bad_case(out, at);
-    }
     let room = case::number32(case, 0);
-    if dst.len() < room {
-        return text::bad_case(out, at);
-    }
     let sort = wire::byte_at(case, 4);
+    if is_whole(sort, case.len()) {
+        if room <= dst.len() {
+            return of_sort(sort, case, &mut dst[0..room], out, at);
+        }
+    }
+    text::bad_case(out, at)
+}
+
+// Whether a case of this length may be of a sort.
+fn is_whole(sort: u8, size: usize) -> bool {
     match sort {
-        0 => no_protocol(case, &mut dst[0..room], out, at),
-        1 => no_algorithm(case, &mut dst[0..room], out, at),
-        2 => error(case, &mut dst[0..room], out, at),
-        3 => support(case, &mut dst[0..room], out, at),
-        _ => text::bad_case(out, at),
+        0 => size == 5,
+        1 | 2 => size == 7,
+        _ => sort == 3,
     }
 }
 
-fn no_protocol(case: &[u8], dst: &mut [u8], out: &mut [u8], at: usize) -> usize {
-    if case.len() != 5 {
-        return text::bad_case(out, at);
+fn of_sort(sort: u8, case: &[u8], dst: &mut [u8], out: &mut [u8], at: usize) -> usize {
+    match sort {
+        0 => no_protocol(dst, out, at),
+        1 => no_algorithm(case, dst, out, at),
+        2 => error(case, dst, out, at),
+        _ => support(case, dst, out, at),
     }
+}
+
+fn no_protocol(dst: &mut [u8], out: &mut [u8], at: usize) -> usize {
     lent::fill(dst);
     let answer = declining::write_no_protocol(dst);
     lent::put_written(out, at, dst, answer)
 }
 
 fn no_algorithm(case: &[u8], dst: &mut [u8], out: &mut [u8], at: usize) -> usize {
-    if case.len() != 7 {
-        return text::bad_case(out, at);
-    }
     lent::fill(dst);
     let answer = declining::write_no_algorithm(NextProtocol(case::number16(case, 5)), dst);
     lent::put_written(out, at, dst, answer)
 }
 
 fn error(case: &[u8], dst: &mut [u8], out: &mut [u8], at: usize) -> usize {
-    if case.len() != 7 {
-        return text::bad_case(out, at);
-    }
     lent::fill(dst);
     let answer = declining::write_error(ErrorCode(case::number16(case, 5)), dst);
     lent::put_written(out, at, dst, answer)
@@ -54,22 +56,35 @@ fn error(case: &[u8], dst: &mut [u8], out: &mut [u8], at: usize) -> usize {
 
 // Flags, and two lists of numbers.
 fn support(case: &[u8], dst: &mut [u8], out: &mut [u8], at: usize) -> usize {
-    let mut pairs = [0u16; 33000];
-    let mut protocols = [0u16; 33000];
     let flags = wire::byte_at(case, 5);
-    let p = case::counted_numbers(case, 6);
-    let q = case::counted_numbers(case, p.end);
-    if p.bad | q.bad | (q.end < case.len()) | (7 < flags) {
+    let second = case::behind_numbers(case, 6);
+    if (case::behind_numbers(case, second) != case.len()) | (7 < flags) {
         return text::bad_case(out, at);
     }
-    let n = case::put_cells(wire::part(case, p.start, p.len), &mut pairs);
-    let m = case::put_cells(wire::part(case, q.start, q.len), &mut protocols);
-    let asked = Asked {
+    put_lists(flags, case, second, dst, out, at)
+}
+
+fn asked(flags: u8) -> Asked {
+    Asked {
         algorithms: case::flag(flags, 1),
         protocols: case::flag(flags, 2),
         keep_alive: case::flag(flags, 4),
-    };
-    put_support(asked, &pairs[0..n], &protocols[0..m], dst, out, at)
+    }
+}
+
+fn put_lists(
+    flags: u8,
+    case: &[u8],
+    second: usize,
+    dst: &mut [u8],
+    out: &mut [u8],
+    at: usize,
+) -> usize {
+    let mut pairs = [0u16; 33000];
+    let mut protocols = [0u16; 33000];
+    let n = case::put_cells(case::numbers(case, 6), &mut pairs);
+    let m = case::put_cells(case::numbers(case, second), &mut protocols);
+    put_support(asked(flags), &pairs[0..n], &protocols[0..m], dst, out, at)
 }
 
 fn put_support(
@@ -89,28 +104,36 @@ fn put_support(
 
 // Op k: two lists of numbers, the output's room, the tray's used length, and the tray.
 pub(super) fn request(case: &[u8], dst: &mut [u8], out: &mut [u8], at: usize) -> usize {
+    let second = case::behind_numbers(case, 0);
+    let sizes = case::rest(case, case::behind_numbers(case, second));
+    let room = case::number32(sizes, 0);
+    if 8 <= sizes.len() {
+        if room <= dst.len() {
+            return put_asked(case, second, sizes, &mut dst[0..room], out, at);
+        }
+    }
+    text::bad_case(out, at)
+}
+
+// The request of the lists at the front of a case and at a second place, with the tray behind the sizes.
+fn put_asked(
+    case: &[u8],
+    second: usize,
+    sizes: &[u8],
+    dst: &mut [u8],
+    out: &mut [u8],
+    at: usize,
+) -> usize {
     let mut protocols = [0u16; 33000];
     let mut algorithms = [0u16; 33000];
-    let p = case::counted_numbers(case, 0);
-    let a = case::counted_numbers(case, p.end);
-    let room = case::take(case, a.end, 4);
-    let used = case::take(case, room.end, 4);
-    if p.bad | a.bad | room.bad | used.bad {
-        return text::bad_case(out, at);
-    }
-    let size = case::number32(case, room.start);
-    if dst.len() < size {
-        return text::bad_case(out, at);
-    }
-    let n = case::put_cells(wire::part(case, p.start, p.len), &mut protocols);
-    let m = case::put_cells(wire::part(case, a.start, a.len), &mut algorithms);
-    let tray = case::rest(case, used.end);
+    let n = case::put_cells(case::numbers(case, 0), &mut protocols);
+    let m = case::put_cells(case::numbers(case, second), &mut algorithms);
     put_request(
         &protocols[0..n],
         &algorithms[0..m],
-        tray,
-        case::number32(case, used.start),
-        &mut dst[0..size],
+        case::rest(sizes, 8),
+        case::number32(sizes, 4),
+        dst,
         out,
         at,
     )

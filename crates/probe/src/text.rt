@@ -57,6 +57,19 @@ pub(super) fn put_number(out: &mut [u8], at: usize, word: &[u8], n: u64) -> usiz
     put_decimal(out, to, n)
 }
 
+// A word and a number, twice.
+pub(super) fn put_two(
+    out: &mut [u8],
+    at: usize,
+    word: &[u8],
+    n: u16,
+    second: &[u8],
+    m: u16,
+) -> usize {
+    let to = put_number(out, at, word, n as u64);
+    put_number(out, to, second, m as u64)
+}
+
 // A word, and 1 or 0 behind it.
 pub(super) fn put_flag(out: &mut [u8], at: usize, word: &[u8], flag: bool) -> usize {
     let to = put_text(out, at, word);
@@ -90,15 +103,14 @@ pub(super) fn put_refusal(out: &mut [u8], at: usize, error: NtsError) -> usize {
 // "length N" or "length refused N", and a blank.
 pub(super) fn put_length(out: &mut [u8], at: usize, length: ByteCount) -> usize {
     let word = put_text(out, at, b"length ");
-    match length {
-        ByteCount::Bytes(n) => {
-            let to = put_decimal(out, word, n as u64);
-            put(out, to, b' ')
-        }
-        ByteCount::Refused(error) => {
-            let to = put_refusal(out, word, error);
-            put(out, to, b' ')
-        }
+    let to = put_count(out, word, length);
+    put(out, to, b' ')
+}
+
+fn put_count(out: &mut [u8], at: usize, count: ByteCount) -> usize {
+    match count {
+        ByteCount::Bytes(n) => put_decimal(out, at, n as u64),
+        ByteCount::Refused(error) => put_refusal(out, at, error),
     }
 }
 

@@ -11,8 +11,23 @@ pub enum Sort {
     Reply,
 }
 
+pub(super) fn answer(op: u8, case: &[u8], table: &mut [u16], out: &mut [u8], at: usize) -> usize {
+    match op {
+        b'L' | b'l' => limited(sort_of(op), case, table, out, at),
+        b'Q' => under(Sort::Request, 65535, case, table, out, at),
+        _ => under(sort_of(op), 4096, case, table, out, at),
+    }
+}
+
+fn sort_of(op: u8) -> Sort {
+    match op {
+        b'y' | b'l' => Sort::Reply,
+        _ => Sort::Request,
+    }
+}
+
 // Ops q, Q and y: a message, with this limit and all of the table.
-pub(super) fn under(
+fn under(
     sort: Sort,
     limit: u16,
     message: &[u8],
@@ -28,20 +43,13 @@ pub(super) fn under(
 }
 
 // Ops L and l: a limit, a number of cells, and the message.
-pub(super) fn limited(
-    sort: Sort,
-    case: &[u8],
-    table: &mut [u16],
-    out: &mut [u8],
-    at: usize,
-) -> usize {
-    if case.len() < 4 {
-        return text::bad_case(out, at);
-    }
+fn limited(sort: Sort, case: &[u8], table: &mut [u16], out: &mut [u8], at: usize) -> usize {
     let limit = case::number16(case, 0);
     let cells = case::number16(case, 2) as usize;
-    if table.len() < cells {
-        return text::bad_case(out, at);
+    if 4 <= case.len() {
+        if cells <= table.len() {
+            return under(sort, limit, &case[4..], &mut table[0..cells], out, at);
+        }
     }
-    under(sort, limit, &case[4..], &mut table[0..cells], out, at)
+    text::bad_case(out, at)
 }

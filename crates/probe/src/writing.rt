@@ -90,6 +90,22 @@ fn with_bit(case: &[u8], at: usize) -> Given {
     })
 }
 
+fn with_body(kind: u16, body: Part) -> Given {
+    match kind {
+        NtsRecord::NEXT_PROTOCOL => Given::Item(NtsRecord::NextProtocol(body)),
+        NtsRecord::AEAD_ALGORITHM => Given::Item(NtsRecord::AeadAlgorithm(body)),
+        NtsRecord::NEW_COOKIE => Given::Item(NtsRecord::NewCookie(body)),
+        NtsRecord::SERVER => Given::Item(NtsRecord::Server(body)),
+        NtsRecord::SUPPORTED_NEXT_PROTOCOL_LIST => Given::Item(NtsRecord::SupportedNextProtocolList(
+            body,
+        )),
+        NtsRecord::SUPPORTED_ALGORITHM_LIST => Given::Item(NtsRecord::SupportedAlgorithmList(body)),
+        NtsRecord::NTP_SERVER_DENY => Given::Item(NtsRecord::NtpServerDeny(body)),
+        NtsRecord::AUTHENTICATION => Given::Item(NtsRecord::Authentication(body)),
+        _ => Given::Bad,
+    }
+}
+
 // A kind byte, and what belongs to it.
 fn record_in(case: &[u8], from: usize) -> Given {
     if case.len() <= from {
@@ -97,26 +113,13 @@ fn record_in(case: &[u8], from: usize) -> Given {
     }
     let kind = wire::byte_at(case, from) as u16;
     let at = from + 1;
-    let body = rest(case, at);
     match kind {
         NtsRecord::END_OF_MESSAGE => bare(case, at, NtsRecord::EndOfMessage),
-        NtsRecord::NEXT_PROTOCOL => Given::Item(NtsRecord::NextProtocol(body)),
-        NtsRecord::ERROR => with_number(kind, case, at),
-        NtsRecord::WARNING => with_number(kind, case, at),
-        NtsRecord::AEAD_ALGORITHM => Given::Item(NtsRecord::AeadAlgorithm(body)),
-        NtsRecord::NEW_COOKIE => Given::Item(NtsRecord::NewCookie(body)),
-        NtsRecord::SERVER => Given::Item(NtsRecord::Server(body)),
-        NtsRecord::PORT => with_number(kind, case, at),
+        NtsRecord::ERROR | NtsRecord::WARNING | NtsRecord::PORT => with_number(kind, case, at),
         NtsRecord::KEEP_ALIVE => bare(case, at, NtsRecord::KeepAlive),
-        NtsRecord::SUPPORTED_NEXT_PROTOCOL_LIST => Given::Item(NtsRecord::SupportedNextProtocolList(
-            body,
-        )),
-        NtsRecord::SUPPORTED_ALGORITHM_LIST => Given::Item(NtsRecord::SupportedAlgorithmList(body)),
         NtsRecord::KIND_WITHOUT_NAME => with_bit(case, at),
         NtsRecord::FIXED_KEY_REQUEST => with_halves(case, at),
-        NtsRecord::NTP_SERVER_DENY => Given::Item(NtsRecord::NtpServerDeny(body)),
-        NtsRecord::AUTHENTICATION => Given::Item(NtsRecord::Authentication(body)),
-        _ => Given::Bad,
+        _ => with_body(kind, rest(case, at)),
     }
 }
 
@@ -127,9 +130,17 @@ fn put_written(item: NtsRecord, source: &[u8], dst: &mut [u8], out: &mut [u8], a
     lent::put_written(out, at, dst, answer)
 }
 
-// Op w: a record, into an output of all the room.
-pub(super) fn whole_room(case: &[u8], dst: &mut [u8], out: &mut [u8], at: usize) -> usize {
-    let record = record_in(case, 0);
+pub(super) fn answer(op: u8, case: &[u8], dst: &mut [u8], out: &mut [u8], at: usize) -> usize {
+    match op {
+        b'w' => put_given(case, 0, dst, out, at),
+        b'W' => in_room(case, dst, out, at),
+        _ => part_in(case, dst, out, at),
+    }
+}
+
+// Op w: a record from a place on, into an output of all the room.
+fn put_given(case: &[u8], from: usize, dst: &mut [u8], out: &mut [u8], at: usize) -> usize {
+    let record = record_in(case, from);
     match record {
         Given::Item(item) => put_written(item, case, dst, out, at),
         Given::Bad => text::bad_case(out, at),
@@ -137,23 +148,16 @@ pub(super) fn whole_room(case: &[u8], dst: &mut [u8], out: &mut [u8], at: usize)
 }
 
 // Op W: the output's room, and a record.
-pub(super) fn in_room(case: &[u8], dst: &mut [u8], out: &mut [u8], at: usize) -> usize {
-    if case.len() < 4 {
-        return text::bad_case(out, at);
-    }
+fn in_room(case: &[u8], dst: &mut [u8], out: &mut [u8], at: usize) -> usize {
     let room = case::number32(case, 0);
-    if dst.len() < room {
-        return text::bad_case(out, at);
+    if room <= dst.len() {
+        return put_given(case, 4, &mut dst[0..room], out, at);
     }
-    let record = record_in(case, 4);
-    match record {
-        Given::Item(item) => put_written(item, case, &mut dst[0..room], out, at),
-        Given::Bad => text::bad_case(out, at),
-    }
+    text::bad_case(out, at)
 }
 
 // Op X: a cookie's start and length, and the bytes that it may lie in.
-pub(super) fn part_in(case: &[u8], dst: &mut [u8], out: &mut [u8], at: usize) -> usize {
+fn part_in(case: &[u8], dst: &mut [u8], out: &mut [u8], at: usize) -> usize {
     if case.len() < 16 {
         return text::bad_case(out, at);
     }
@@ -168,13 +172,14 @@ pub(super) fn part_in(case: &[u8], dst: &mut [u8], out: &mut [u8], at: usize) ->
 pub(super) fn length_of(case: &[u8], out: &mut [u8], at: usize) -> usize {
     let record = record_in(case, 0);
     match record {
-        Given::Item(item) => {
-            let answer = item.length(case);
-            match answer {
-                ByteCount::Bytes(n) => text::put_number(out, at, b"length ", n as u64),
-                ByteCount::Refused(error) => text::put_refusal(out, at, error),
-            }
-        }
+        Given::Item(item) => put_length(out, at, item.length(case)),
         Given::Bad => text::bad_case(out, at),
+    }
+}
+
+fn put_length(out: &mut [u8], at: usize, length: ByteCount) -> usize {
+    match length {
+        ByteCount::Bytes(n) => text::put_number(out, at, b"length ", n as u64),
+        ByteCount::Refused(error) => text::put_refusal(out, at, error),
     }
 }

@@ -6,19 +6,16 @@ use Rattle.probe.proofs.case.are_counted.Statement.{statement}
 use Rattle.probe.proofs.case.are_counted.Tie as tie
 
 abbrev Inv-loop : tie.InvT-loop
-Inv-loop s from count at₀ i₀ at i = Unit {0}
+Inv-loop s count at₀ i₀ at i = Unit {0}
 
 abbrev μ-loop : tie.MeasureT-loop
-μ-loop s from count at₀ i₀ at i = count - i
+μ-loop s count at₀ i₀ at i = count - i
 
 loop-holds : tie.Need-loop-holds Inv-loop μ-loop
 loop-holds c = search needs
 
-counted-requires : tie.Need-counted-requires Inv-loop μ-loop
-counted-requires c κs = search needs
-
-returns : tie.Need-returns Inv-loop μ-loop
-returns c = search needs
+behind-counted-requires : tie.Need-behind-counted-requires Inv-loop μ-loop
+behind-counted-requires c κs = search needs
 
 add-i : tie.Need-add-i Inv-loop μ-loop
 add-i c = search needs
@@ -29,8 +26,8 @@ loop-less c = search needs
 loop-again : tie.Need-loop-again Inv-loop μ-loop
 loop-again c = search needs
 
-returns-2 : tie.Need-returns-2 Inv-loop μ-loop
-returns-2 c = search needs
+returns : tie.Need-returns Inv-loop μ-loop
+returns c = search needs
 
 pub are-counted-spec : {M : Type 1} → statement M
 are-counted-spec =
@@ -39,9 +36,8 @@ are-counted-spec =
     Inv-loop
     μ-loop
     loop-holds
-    counted-requires
-    returns
+    behind-counted-requires
     add-i
     loop-less
     loop-again
-    returns-2)
+    returns)

@@ -1,26 +1,20 @@
--- `probe::plans::append_all` ends: each turn leaves fewer cookies.
+-- `probe::plans::append_each` ends: each turn leaves fewer cookies.
 -- Assumes nothing.
 use mathlib.Core.Path.{_≡_}
 use Prim.Native.Nat.{_-_}
 use lib.ListN.{length}
 use borrow.Author.Needs.{needs}
-use Rattle.probe.proofs.plans.append_all.Statement.{statement}
-use Rattle.probe.proofs.plans.append_all.Tie as tie
+use Rattle.probe.proofs.plans.append_each.Statement.{statement}
+use Rattle.probe.proofs.plans.append_each.Tie as tie
 
 abbrev Inv-loop : tie.InvT-loop
-Inv-loop case from count tray₀ before₀ i₀ made₀ tray before i made = (length tray ≡ length tray₀) × (length before ≡ length before₀)
+Inv-loop count cookies tray₀ before₀ i₀ made₀ tray before i made = (length tray ≡ length tray₀) × (length before ≡ length before₀)
 
 abbrev μ-loop : tie.MeasureT-loop
-μ-loop case from count tray₀ before₀ i₀ made₀ tray before i made = count - i
-
-by-calls-requires : tie.Need-by-calls-requires Inv-loop μ-loop
-by-calls-requires c κs = search needs
+μ-loop count cookies tray₀ before₀ i₀ made₀ tray before i made = count - i
 
 loop-holds : tie.Need-loop-holds Inv-loop μ-loop
 loop-holds c = search needs
-
-slice-aggregate-append-next : tie.Need-slice-aggregate-append-next Inv-loop μ-loop
-slice-aggregate-append-next c = search needs
 
 append-next-requires : tie.Need-append-next-requires Inv-loop μ-loop
 append-next-requires c κs = search needs
@@ -37,21 +31,23 @@ loop-again c = search needs
 same-length : tie.Need-same-length Inv-loop μ-loop
 same-length c = search needs
 
+same-length-2 : tie.Need-same-length-2 Inv-loop μ-loop
+same-length-2 c = search needs
+
 returns : tie.Need-returns Inv-loop μ-loop
 returns c = search needs
 
-pub append-all-spec : {M : Type 1} → statement M
-append-all-spec =
+pub append-each-spec : {M : Type 1} → statement M
+append-each-spec =
     tie.close
     (tie.spec
     Inv-loop
     μ-loop
-    by-calls-requires
     loop-holds
-    slice-aggregate-append-next
     append-next-requires
     add-i
     loop-less
     loop-again
     same-length
+    same-length-2
     returns)
