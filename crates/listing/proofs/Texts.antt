@@ -1,7 +1,6 @@
 -- Short texts, one after the other.
 -- Assumes nothing.
 use mathlib.Core.Path.{_≡_, refl, sym, ap, _∙_}
-use mathlib.Core.Bool.{Bool}
 use mathlib.Core.List.{List, [], _∷_, _++_, append-assoc}
 use Prim.Native.Nat.{ℕ, _+_, _-_, _≤_}
 use native.Mathlib.Omega.{arith}
@@ -15,7 +14,8 @@ use Rattle.nts.specs.declared.Code.{Code}
 use Rattle.nts.specs.declared.Refusal.{Refusal}
 use Rattle.request.specs.Request.{refusedWith}
 use Rattle.listing.specs.Listing.{space, newline, digits, mark, recordLine, protocolsText, algorithmsText, deniedText, refusedText, atText, besideText, answerText}
-use Rattle.listing.specs.Code.{PutMost}
+use Rattle.listing.specs.Code.{PutMost, rowLine, rowText}
+use Rattle.listing.specs.declared.Row.{Row}
 
 -- a total writer that had room
 pub most : {b o o′ : List ℕ} {r : ℕ} → length b ≤ length o → Tried (length b) b o r o′ → PutMost (length b) b o r o′
@@ -68,10 +68,13 @@ refusal-text f n c en ec =
     ∙ ap (λ (k : ℕ). refusedText ++ (digits k ++ (atText ++ (digits (f .place) ++ besideText (toldCode c))))) en
     ∙ ap (λ (x : Beside). refusedText ++ (digits (numberOf (f .error)) ++ (atText ++ (digits (f .place) ++ besideText x)))) ec
 
-after-one : (a y b z d w : List ℕ) → ((a ++ (y ++ b)) ++ (z ++ d)) ++ w ≡ a ++ (y ++ (b ++ (z ++ (d ++ w))))
+after-one : (a y b z d w : List ℕ) → a ++ ((y ++ b) ++ ((z ++ d) ++ w)) ≡ a ++ (y ++ (b ++ (z ++ (d ++ w))))
 after-one a y b z d w = simp append-assoc
 
-pub line-text : (at k : ℕ) (bit : Bool) (n : ℕ)
-    → ((digits at ++ ((space ∷ []) ++ digits k)) ++ ((space ∷ mark bit ∷ space ∷ []) ++ digits n)) ++ (newline ∷ []) ≡ recordLine at k bit n
-unfolding recordLine
-line-text at k bit n = after-one (digits at) (space ∷ []) (digits k) (space ∷ mark bit ∷ space ∷ []) (digits n) (newline ∷ [])
+pub row-text : (x : Row) → (((space ∷ []) ++ digits (x .kind)) ++ ((space ∷ mark (x .critical) ∷ space ∷ []) ++ digits (x .size))) ++ (newline ∷ []) ≡ rowText x
+unfolding rowText
+row-text x = append-assoc ((space ∷ []) ++ digits (x .kind)) ((space ∷ mark (x .critical) ∷ space ∷ []) ++ digits (x .size)) (newline ∷ [])
+
+pub line-text : (at : ℕ) (x : Row) → digits at ++ rowText x ≡ rowLine at x
+unfolding recordLine rowText
+line-text at x = after-one (digits at) (space ∷ []) (digits (x .kind)) (space ∷ mark (x .critical) ∷ space ∷ []) (digits (x .size)) (newline ∷ [])

@@ -1,12 +1,12 @@
 -- What the code holds of a listing: one line as the loops see it, and a writer of a short text into an array with room for it.
 use Prim.Native.Nat.{ℕ, _+_, _<_, _≤_}
 use mathlib.Core.Path.{_≡_}
-use mathlib.Core.List.{List, [], _++_}
+use mathlib.Core.List.{List, [], _∷_, _++_}
 use lib.ListN.{length, drop}
 use Rattle.wire.specs.Bytes.{numberAt}
 use Rattle.wire.specs.Over.{Put}
 use Rattle.record.specs.Record.{kindOf, criticalOf}
-use Rattle.listing.specs.Listing.{recordLine, Last, recordLines}
+use Rattle.listing.specs.Listing.{space, newline, digits, mark, recordLine, Last, recordLines}
 use Rattle.listing.specs.declared.Row.{Row}
 use Rattle.listing.specs.declared.Line.{Line}
 use Rattle.listing.specs.declared.Line.the-variants as line
@@ -22,6 +22,10 @@ rowIn m at = record { kind = kindOf (numberAt m at); critical = criticalOf (numb
 
 abbrev pub rowLine : ℕ → Row → List ℕ
 rowLine at x = recordLine at (x .kind) (x .critical) (x .size)
+
+-- .. and what stands behind its place
+unfoldable pub rowText : Row → List ℕ
+rowText x = ((space ∷ []) ++ digits (x .kind)) ++ (((space ∷ mark (x .critical) ∷ space ∷ []) ++ digits (x .size)) ++ (newline ∷ []))
 
 -- the lines from a place of the message m on: none, one, or one and those from the place after it on
 abbrev pub linesBy : Last → List ℕ → ℕ → Line → List ℕ

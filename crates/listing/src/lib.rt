@@ -16,7 +16,7 @@ ghost use Rattle.nts.specs.Refusal.{toldCode, toldRefusal};
 ghost use Rattle.record.specs.Record.{kindOf, criticalOf};
 ghost use Rattle.request.specs.Request.{refusedWith, toldAnswer};
 ghost use Rattle.listing.specs.Listing.{space, newline, digits, heading, mark, isLast, recordLines, protocolsText, algorithmsText, deniedText, besideText, answerText, lastOf, listing};
-ghost use Rattle.listing.specs.Code.{PutMost, rowIn, rowLine, LineAt};
+ghost use Rattle.listing.specs.Code.{PutMost, rowIn, rowLine, rowText, LineAt};
 
 // What a line tells of a record besides its place.
 struct Row {
@@ -200,9 +200,17 @@ fn make_line(at: usize, row: Row, out: &mut [u8]) -> usize
     ensures { λ r. ⌜ PutMost 65 (rowLine at row) (now (out .entry)) r (now (out .exit)) ⌝ }
 {
     let a = put_digits(at, out);
-    let b = a + put_field(b" ", row.kind as usize, &mut out[a..]);
-    let c = b + put_size(row.critical, row.size as usize, &mut out[b..]);
-    c + wire::put_bytes(b"\n", &mut out[c..])
+    a + put_row(row, &mut out[a..])
+}
+
+// What stands behind a line's place: kind, bit and size, and the newline.
+fn put_row(row: Row, out: &mut [u8]) -> usize
+    requires { ⌜ 45 ≤ length (now out) ⌝ }
+    ensures { λ r. ⌜ PutMost 45 (rowText row) (now (out .entry)) r (now (out .exit)) ⌝ }
+{
+    let a = put_field(b" ", row.kind as usize, out);
+    let b = a + put_size(row.critical, row.size as usize, &mut out[a..]);
+    b + wire::put_bytes(b"\n", &mut out[b..])
 }
 
 // A record's bit and size.
