@@ -38,6 +38,6 @@ pub fn write_error(code: ErrorCode, out: &mut [u8]) -> ByteCount
     if out.len() < messages::NUMBER_RECORD + NtsRecord::HEADER {
         return ByteCount::Refused(NtsError::OutputTooShort);
     }
-    let at = messages::put_one(messages::ERROR, code.0, out);
-    ByteCount::Bytes(at + messages::put_empty(messages::END, &mut out[at..]))
+    let end = messages::put_one(messages::ERROR, code.0, out);
+    ByteCount::Bytes(end + messages::put_empty(messages::END, &mut out[end..]))
 }
