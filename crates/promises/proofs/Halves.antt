@@ -19,7 +19,7 @@ use Rattle.layout.specs.Write.{header}
 use Rattle.layout.specs.declared.Shape.the-variants.{Skipped, Numbers, Number, Bytes, Name}
 use Rattle.record.specs.Record.{shapeOf}
 use Rattle.walk.specs.Walk.{ends, refuses, Reader, Sighting}
-use Rattle.walk.specs.Judge.{no, yes, Judge, some, bodyIn, refused, accepted, readBy}
+use Rattle.walk.specs.Judge.{no, yes, Under, Judge, some, bodyIn, refused, accepted, readBy}
 use Rattle.walk.specs.Message.{Each, flat, Shows}
 use Rattle.walk.specs.Table.{known, actBy}
 use Rattle.walk.proofs.Laws.{Lawful, read-refused}
@@ -54,19 +54,19 @@ reply-kinds X k o p a s t =
 
 -- ---- a message of noted records, and a tail
 
-module _ (R : Reader) (D : Judge) (L : Lawful R D) (n : ℕ) (cs : List (List ℕ)) (t : List ℕ) (l : ℕ → List (List ℕ)) (h : Noted R cs l)
+module _ (R : Reader) (D : Judge) (L : Lawful R D) (u : Under) (cs : List (List ℕ)) (t : List ℕ) (l : ℕ → List (List ℕ)) (h : Noted R cs l)
     (once : (k : ℕ) → R .once k ≡ true → length (l k) ≤ 1) (shape : R .shape 0 ≡ Skipped) (end : R .act 0 true [] ≡ ends)
-    (fits : length (messageOf cs) ≤ n) where
-  message-shows : (x : D .Q (List ℕ)) → D .decide (λ (b : List ℕ). b) l ≡ yes x → Shows R D (messageOf cs ++ t) n x
+    (fits : length (messageOf cs) ≤ u .limit) where
+  message-shows : (x : D .Q (List ℕ)) → D .decide u (λ (b : List ℕ). b) l ≡ yes x → Shows R D (messageOf cs ++ t) u x
   message-shows x y =
       rw append-assoc
-      (noted-shows R D L n cs endRecord t l h once (last-written R shape end) (omega (arith, length-append (flat cs) endRecord)) x y)
+      (noted-shows R D L u cs endRecord t l h once (last-written R shape end) (omega (arith, length-append (flat cs) endRecord)) x y)
 
-  message-refused : (k : ℕ) (b : Beside) → D .decide (λ (b : List ℕ). b) l ≡ no k b
-      → readBy R D (messageOf cs ++ t) n ≡ refused (record { number = k; beside = b; place = length (flat cs) })
+  message-refused : (k : ℕ) (b : Beside) → D .decide u (λ (b : List ℕ). b) l ≡ no k b
+      → readBy R D (messageOf cs ++ t) u ≡ refused (record { number = k; beside = b; place = length (flat cs) })
   message-refused k b y =
       rw append-assoc
-      (noted-refused R D L n cs endRecord t l h once (last-written R shape end) (omega (arith, length-append (flat cs) endRecord)) k b y)
+      (noted-refused R D L u cs endRecord t l h once (last-written R shape end) (omega (arith, length-append (flat cs) endRecord)) k b y)
 
 -- ---- a reply
 
@@ -159,7 +159,7 @@ module _ (x : Plan) (s : List ℕ) (utf8 : wellFormed s ≡ true) (l : List (Lis
       ≡ reply.reply (bytesOf (x .protocol .0)) (bytesOf (x .algorithm .0)) (serverSent (x .name) s) (portSent (x .port)) (x .«keep_alive») l)
   unfolding replyOf shapeOf actBy known reply.act
   reply-read t n room h g f =
-      message-shows reply.reader (reply.judgeBy room) (reply-lawful room) n (replyRecords x s l) t replyBodies reply-noted reply-once refl refl f _
+      message-shows reply.reader reply.judging reply-lawful (record { limit = n; room = room }) (replyRecords x s l) t replyBodies reply-noted reply-once refl refl f _
       (reply-decided room h g)
 
 -- ---- a request
@@ -213,19 +213,22 @@ module _ (protocols algorithms : List ℕ) (names : List (List ℕ)) (utf8 : all
       ≡ request.keyExchange (cellBytes protocols) (cellBytes algorithms) names)
   unfolding request.request shapeOf actBy known
   request-read t n room g f =
-      message-shows request.reader (request.judgeBy room) (request-lawful room) n (requestRecords protocols algorithms names) t requestBodies
+      message-shows request.reader request.judging request-lawful (record { limit = n; room = room }) (requestRecords protocols algorithms names) t requestBodies
       request-noted request-once refl refl f _ (request-decided room g)
 
 -- ---- the other replies
 
 module _ (t : List ℕ) (n room : ℕ) where
+  abbrev asked : Under
+  asked = record { limit = n; room = room }
+
   -- the reply that no protocol is agreed on is refusal 13, at its end record's place
   pub no-protocol-read : length (messageOf noProtocolRecords) ≤ n
       → replyOf (messageOf noProtocolRecords ++ t) n room ≡ refused (record { number = 13; beside = nothing; place = 4 })
   unfolding replyOf recordOf header bytesOf shapeOf actBy known reply.act reply.decide
   no-protocol-read f =
       let l : ℕ → List (List ℕ) = λ k. cond (eqb 1 k) ([] ∷ []) [] in
-      message-refused reply.reader (reply.judgeBy room) (reply-lawful room) n noProtocolRecords t l
+      message-refused reply.reader reply.judging reply-lawful asked noProtocolRecords t l
       (one-noted 1 true [] (omega arith) reply.reader Numbers refl refl refl)
       (λ k o. reply-kinds (λ j. length (l j) ≤ 1) k o (omega arith) (omega arith) (omega arith) (omega arith))
       refl refl f 13 nothing refl
@@ -236,7 +239,7 @@ module _ (t : List ℕ) (n room : ℕ) where
   unfolding replyOf recordOf header bytesOf shapeOf actBy known reply.act reply.decide
   no-algorithm-read p f =
       let l : ℕ → List (List ℕ) = λ k. cond (eqb 1 k) (bytesOf p ∷ []) [] ++ cond (eqb 4 k) ([] ∷ []) [] in
-      message-refused reply.reader (reply.judgeBy room) (reply-lawful room) n (noAlgorithmRecords p) t l
+      message-refused reply.reader reply.judging reply-lawful asked (noAlgorithmRecords p) t l
       (noted-append reply.reader (one-noted 1 true (bytesOf p) (omega arith) reply.reader Numbers refl refl refl)
       (one-noted 4 true [] (omega arith) reply.reader Numbers refl refl refl))
       (λ k o. reply-kinds (λ j. length (l j) ≤ 1) k o (omega arith) (omega arith) (omega arith) (omega arith))
@@ -250,5 +253,5 @@ module _ (t : List ℕ) (n room : ℕ) where
       let u = recordWith 2 true (bytesOf c) in
       let a = act-written 2 true (bytesOf c) (omega arith) reply.reader ∙ ap (λ (k : ℕ). refuses 11 (code k)) (number-back c []) in
       rw (append-nil, append-assoc)
-      (read-refused reply.reader (reply.judgeBy room) n [] u (endRecord ++ t) 11 (code c) tt tt (whole-written 2 true (bytesOf c))
+      (read-refused reply.reader reply.judging asked [] u (endRecord ++ t) 11 (code c) tt tt (whole-written 2 true (bytesOf c))
       (faultless-written 2 true (bytesOf c) (omega arith) reply.reader Number refl refl) a (omega (arith, length-append (u ++ []) endRecord, length-append u [])))

@@ -21,7 +21,7 @@ use Rattle.walk.proofs.Verdicts.{Held, held-if}
 use Rattle.walk.proofs.Answered.{read-refused, Ended, walk-ended, read-ended, ended-inside}
 use Rattle.places.specs.Places.{cells, roomOf, filled}
 use Rattle.places.proofs.Walked.{walk-filled}
-use Rattle.reply.specs.Reply.{act, once, reader, Form, reply, decide, judgeBy, replyOf, toldBy, toldAnswer, cookiesOf, tableAfter, Reads}
+use Rattle.reply.specs.Reply.{act, once, reader, Form, reply, decide, judging, replyOf, toldBy, toldAnswer, cookiesOf, tableAfter, Reads}
 use Rattle.reply.specs.State.{tally, toldWalked, handedUp, decidedIn, isAccepted}
 use Rattle.reply.specs.declared.Found.{Found}
 use Rattle.reply.specs.declared.Answer.{Answer}
@@ -33,17 +33,17 @@ use Rattle.reply.proofs.Lawful.{reply-goes}
 module _ (m : List ℕ) (n room : ℕ) where
   pub reply-refused : (r : Refused) → wayRefused r ≡ wayOf tally (walk reader [] 0 0 (take n m)) → replyOf m n room ≡ judge.refused r
   unfolding replyOf
-  reply-refused = read-refused reader tally m n (judgeBy room)
+  reply-refused = read-refused reader tally m (record { limit = n; room = room }) judging
 
-  module _ (at : ℕ) (f : Found) (d : Ended reader tally m n at f) where
+  module _ (at : ℕ) (f : Found) (d : Ended reader tally m (record { limit = n; room = room }) at f) where
     pub reply-ended : replyOf m n room ≡ placed at (decide room (bodyIn m) (λ k. ofKind k (d .state)))
     unfolding replyOf
-    reply-ended = read-ended reader tally m n at f d (judgeBy room)
+    reply-ended = read-ended reader tally m (record { limit = n; room = room }) at f d judging
 
     pub reply-told : decidedIn m f at room ≡ toldBy m (replyOf m n room)
     reply-told =
         ap (λ (g : Found). decidedIn m g at room) (d .struct)
-        ∙ decided-is m at room (d .state) (ended-inside reader tally m n at f d)
+        ∙ decided-is m at room (d .state) (ended-inside reader tally m (record { limit = n; room = room }) at f d)
         ∙ ap (toldBy m) (sym reply-ended)
 
 -- ---- the table
@@ -60,10 +60,10 @@ module _ (room : ℕ) (d : List Sighting) where
   Cookies (reply p a s t k c) = (c ≡ d) × (length d ≤ room)
 
   abbrev H : Verdict Form Sighting → Type 0
-  H v = Held (judgeBy room) Cookies v
+  H v = Held judging Cookies v
 
   cookies-if : (t : Bool) (v w : Verdict Form Sighting) → (t ≡ true → H v) → (t ≡ false → H w) → H (cond t v w)
-  cookies-if = held-if (judgeBy room) Cookies
+  cookies-if = held-if judging Cookies
 
   cookies-first : (l : List Sighting) (v : Verdict Form Sighting) (f : Sighting → Verdict Form Sighting) → H v → ((x : Sighting) → H (f x)) → H (withFirst l v f)
   cookies-first [] v f p q = p
@@ -85,7 +85,7 @@ cookies-told m at room d (no n b) h e = let o : _≡_ {A = ℕ} 0 1 = cc in absu
 cookies-told m at room d (yes (reply p a s t k c)) h e = h
 
 -- the table after it was filled
-pub cookies-stored : (m : List ℕ) (n : ℕ) (t : List ℕ) (at : ℕ) (f : Found) (d : Ended reader tally m n at f) → isAccepted (decidedIn m f at (roomOf t)) ≡ true
+pub cookies-stored : (m : List ℕ) (n : ℕ) (t : List ℕ) (at : ℕ) (f : Found) (d : Ended reader tally m (record { limit = n; room = roomOf t }) at f) → isAccepted (decidedIn m f at (roomOf t)) ≡ true
     → filled 5 (take n m) t ≡ tableAfter (replyOf m n (roomOf t)) t
 unfolding tableAfter act once known
 cookies-stored m n t at f d e =
@@ -109,8 +109,8 @@ module _ (m : List ℕ) (n : ℕ) (t cut : List ℕ) (x : Answer) (c : cut ≡ t
       }
 
   module _ (at : ℕ) (f : Found) (w : Walked) (e : w ≡ walked.Ended at f) (v : toldWalked w ≡ wayOf tally (walk reader [] 0 0 cut)) (h : toldAnswer x ≡ decidedIn m f at (roomOf t)) where
-    end : Ended reader tally m n at f
-    end = walk-ended reader tally m n at f (ap toldWalked (sym e) ∙ v ∙ ap (λ (s : List ℕ). wayOf tally (walk reader [] 0 0 s)) c)
+    end : Ended reader tally m (record { limit = n; room = roomOf t }) at f
+    end = walk-ended reader tally m (record { limit = n; room = roomOf t }) at f (ap toldWalked (sym e) ∙ v ∙ ap (λ (s : List ℕ). wayOf tally (walk reader [] 0 0 s)) c)
 
     told : toldAnswer x ≡ toldBy m (replyOf m n (roomOf t))
     told = h ∙ reply-told m n (roomOf t) at f end

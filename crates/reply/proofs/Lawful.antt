@@ -13,7 +13,7 @@ use Rattle.walk.specs.Walk.{Act, ends, notes, refuses}
 use Rattle.walk.specs.Judge.{Verdict, no, yes, some}
 use Rattle.walk.proofs.Laws.{mapVerdict, Lawful}
 use Rattle.walk.proofs.Verdicts.{some-length, some-map, if-map, first-map}
-use Rattle.reply.specs.Reply.{act, once, reader, mapSent, firstSent, Form, decide, judgeBy}
+use Rattle.reply.specs.Reply.{act, once, reader, mapSent, firstSent, Form, decide, judging}
 
 -- ---- kind 0 alone ends a message
 
@@ -37,23 +37,23 @@ sent-map : {A : Type 0} (f : A → List ℕ) (l : List A) → mapSent f (firstSe
 sent-map f [] = refl
 sent-map f (x ∷ l) = refl
 
-module _ (room : ℕ) {A : Type 0} (f : A → List ℕ) where
-  decide-map : (l : ℕ → List A) → mapVerdict (judgeBy room) f (decide room f l) ≡ decide room (λ (b : List ℕ). b) (λ k. map f (l k))
+module _ {A : Type 0} (f : A → List ℕ) where
+  decide-map : (room : ℕ) (l : ℕ → List A) → mapVerdict judging f (decide room f l) ≡ decide room (λ (b : List ℕ). b) (λ k. map f (l k))
   unfolding decide
-  decide-map l =
+  decide-map room l =
       simp (some-map f, length-map)
-      (first-map (judgeBy room) f (l 1) _ _ _ _ refl
-      (λ p. if-map (judgeBy room) f (eqb (length (f p)) 0) _ _ _ _ refl
-      (first-map (judgeBy room) f (l 4) _ _ _ _ refl
-      (λ a. if-map (judgeBy room) f (eqb (length (f a)) 0) _ _ _ _ refl
-      (if-map (judgeBy room) f (eqb (length (l 5)) 0) _ _ _ _ refl
-      (if-map (judgeBy room) f (ltb room (length (l 5))) _ _ _ _ refl (rw (sent-map f (l 6), sent-map f (l 7)))))))))
+      (first-map judging f (l 1) _ _ _ _ refl
+      (λ p. if-map judging f (eqb (length (f p)) 0) _ _ _ _ refl
+      (first-map judging f (l 4) _ _ _ _ refl
+      (λ a. if-map judging f (eqb (length (f a)) 0) _ _ _ _ refl
+      (if-map judging f (eqb (length (l 5)) 0) _ _ _ _ refl
+      (if-map judging f (ltb room (length (l 5))) _ _ _ _ refl (rw (sent-map f (l 6), sent-map f (l 7)))))))))
 
 -- ---- the laws
 
-pub reply-lawful : (room : ℕ) → Lawful reader (judgeBy room)
+pub reply-lawful : Lawful reader judging
 unfolding decide once
-reply-lawful room = record {
-  natural = λ f l. decide-map room f l;
-  stable = λ l l′ h n. rw (h 1 refl, h 4 refl, h 5 refl, h 6 refl, h 7 refl, some-length (l 8) (l′ 8) (n 8));
+reply-lawful = record {
+  natural = λ u f l. decide-map f (u .room) l;
+  stable = λ u l l′ h n. rw (h 1 refl, h 4 refl, h 5 refl, h 6 refl, h 7 refl, some-length (l 8) (l′ 8) (n 8));
 }

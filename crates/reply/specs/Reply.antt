@@ -75,12 +75,12 @@ decide room val l =
     (cond (ltb room (length (l 5))) (no 7 nothing)
     (yes (reply p a (firstSent (l 6)) (firstSent (l 7)) (some (l 8)) (l 5))))))))
 
-abbrev pub judgeBy : ℕ → Judge
-judgeBy room = record { Q = Form; mapQ = λ {A} {B} f q. mapForm f q; decide = λ {A} val l. decide room val l }
+abbrev pub judging : Judge
+judging = record { Q = Form; mapQ = λ {A} {B} f q. mapForm f q; decide = λ u {A} val l. decide (u .room) val l }
 
 -- a message m read as if it were cut after n bytes, with a table that has room for so many cookies
 unfoldable pub replyOf : List ℕ → ℕ → ℕ → judge.Answer Form
-replyOf m n room = readBy reader (judgeBy room) m n
+replyOf m n room = readBy reader judging m (record { limit = n; room = room })
 
 -- ---- what is answered
 

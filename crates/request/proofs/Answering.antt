@@ -22,7 +22,7 @@ use Rattle.walk.proofs.Verdicts.{Held, held-if}
 use Rattle.walk.proofs.Answered.{read-refused, Ended, walk-ended, read-ended, ended-inside}
 use Rattle.places.specs.Places.{cells, roomOf, filled}
 use Rattle.places.proofs.Walked.{walk-filled}
-use Rattle.request.specs.Request.{reader, act, once, Form, keyExchange, fixedKey, support, fixedBy, keyed, decide, judgeBy, request, toldBy, toldAnswer, namesOf, tableAfter, Reads}
+use Rattle.request.specs.Request.{reader, act, once, Form, keyExchange, fixedKey, support, fixedBy, keyed, decide, judging, request, toldBy, toldAnswer, namesOf, tableAfter, Reads}
 use Rattle.request.specs.State.{tally, toldWalked, handedUp, decidedIn, isExchange}
 use Rattle.request.specs.declared.Found.{Found}
 use Rattle.request.specs.declared.Answer.{Answer}
@@ -34,17 +34,17 @@ use Rattle.request.proofs.Lawful.{request-goes}
 module _ (m : List ℕ) (n room : ℕ) where
   pub request-refused : (r : Refused) → wayRefused r ≡ wayOf tally (walk reader [] 0 0 (take n m)) → request m n room ≡ judge.refused r
   unfolding request
-  request-refused = read-refused reader tally m n (judgeBy room)
+  request-refused = read-refused reader tally m (record { limit = n; room = room }) judging
 
-  module _ (at : ℕ) (f : Found) (d : Ended reader tally m n at f) where
+  module _ (at : ℕ) (f : Found) (d : Ended reader tally m (record { limit = n; room = room }) at f) where
     pub request-ended : request m n room ≡ placed at (decide room (bodyIn m) (λ k. ofKind k (d .state)))
     unfolding request
-    request-ended = read-ended reader tally m n at f d (judgeBy room)
+    request-ended = read-ended reader tally m (record { limit = n; room = room }) at f d judging
 
     pub request-told : decidedIn m f at room ≡ toldBy m (request m n room)
     request-told =
         ap (λ (g : Found). decidedIn m g at room) (d .struct)
-        ∙ decided-is m at (d .state) room (ended-inside reader tally m n at f d)
+        ∙ decided-is m at (d .state) room (ended-inside reader tally m (record { limit = n; room = room }) at f d)
         ∙ ap (toldBy m) (sym request-ended)
 
 -- ---- the table
@@ -64,25 +64,25 @@ module _ (room : ℕ) (d : List Sighting) where
   Names (fixedKey u x a p k) = Unit {0}
   Names (support u p a k) = Unit {0}
 
-  names-if : (t : Bool) (v w : Verdict Form Sighting) → (t ≡ true → Held (judgeBy room) Names v) → (t ≡ false → Held (judgeBy room) Names w)
-      → Held (judgeBy room) Names (cond t v w)
-  names-if = held-if (judgeBy room) Names
+  names-if : (t : Bool) (v w : Verdict Form Sighting) → (t ≡ true → Held judging Names v) → (t ≡ false → Held judging Names w)
+      → Held judging Names (cond t v w)
+  names-if = held-if judging Names
 
-  names-first : (l : List Sighting) (v : Verdict Form Sighting) (f : Sighting → Verdict Form Sighting) → Held (judgeBy room) Names v
-      → ((x : Sighting) → Held (judgeBy room) Names (f x)) → Held (judgeBy room) Names (withFirst l v f)
+  names-first : (l : List Sighting) (v : Verdict Form Sighting) (f : Sighting → Verdict Form Sighting) → Held judging Names v
+      → ((x : Sighting) → Held judging Names (f x)) → Held judging Names (withFirst l v f)
   names-first [] v f p q = p
   names-first (x ∷ l) v f p q = q x
 
-  names-keyed : (k : Described) (n half : ℕ) (u x a p : Sighting) (b : Bool) → Held (judgeBy room) Names (keyed k n half (fixedKey u x a p b))
+  names-keyed : (k : Described) (n half : ℕ) (u x a p : Sighting) (b : Bool) → Held judging Names (keyed k n half (fixedKey u x a p b))
   unfolding keyed
   names-keyed unknown n half u x a p b = tt
   names-keyed (known i size) n half u x a p b = names-if (eqb half size) _ _ (λ t. tt) (λ t. tt)
 
-  names-fixed : (val : Sighting → List ℕ) (u x a p : Sighting) (b : Bool) → Held (judgeBy room) Names (fixedBy val u x a p b)
+  names-fixed : (val : Sighting → List ℕ) (u x a p : Sighting) (b : Bool) → Held judging Names (fixedBy val u x a p b)
   unfolding fixedBy
   names-fixed val u x a p b = names-if (eqb (length (val p)) 2 && eqb (length (val a)) 2) _ _ (λ t. names-keyed _ _ _ u x a p b) (λ t. tt)
 
-names-are : (room : ℕ) (val : Sighting → List ℕ) (l : ℕ → List Sighting) → Held (judgeBy room) (Names room (l 13)) (decide room val l)
+names-are : (room : ℕ) (val : Sighting → List ℕ) (l : ℕ → List Sighting) → Held judging (Names room (l 13)) (decide room val l)
 unfolding decide
 names-are room val l =
     names-if room (l 13) (some (l 9) || some (l 10)) _ _
@@ -96,7 +96,7 @@ names-are room val l =
     (λ p. names-first room (l 13) (l 4) _ _ tt
     (λ a. names-fixed room (l 13) val u x a p (some (l 8)))))))
 
-names-told : (m : List ℕ) (at room : ℕ) (d : List Sighting) (v : Verdict Form Sighting) → Held (judgeBy room) (Names room d) v
+names-told : (m : List ℕ) (at room : ℕ) (d : List Sighting) (v : Verdict Form Sighting) → Held judging (Names room d) v
     → isExchange (toldBy m (placed at v)) ≡ true → (namesOf (placed at v) ≡ d) × (length d ≤ room)
 names-told m at room d (no n b) h e = let o : _≡_ {A = ℕ} 0 1 = cc in absurd (omega arith)
 names-told m at room d (yes (keyExchange p a l)) h e = h
@@ -104,7 +104,7 @@ names-told m at room d (yes (fixedKey u x a p k)) h e = let o : _≡_ {A = ℕ} 
 names-told m at room d (yes (support u p a k)) h e = let o : _≡_ {A = ℕ} 0 1 = cc in absurd (omega arith)
 
 -- the table after it was filled
-pub names-stored : (m : List ℕ) (n : ℕ) (t : List ℕ) (at : ℕ) (f : Found) (d : Ended reader tally m n at f) → isExchange (decidedIn m f at (roomOf t)) ≡ true
+pub names-stored : (m : List ℕ) (n : ℕ) (t : List ℕ) (at : ℕ) (f : Found) (d : Ended reader tally m (record { limit = n; room = roomOf t }) at f) → isExchange (decidedIn m f at (roomOf t)) ≡ true
     → filled 13 (take n m) t ≡ tableAfter (request m n (roomOf t)) t
 unfolding tableAfter act once table.known
 names-stored m n t at f d e =
@@ -128,8 +128,8 @@ module _ (m : List ℕ) (n : ℕ) (t cut : List ℕ) (x : Answer) (c : cut ≡ t
       }
 
   module _ (at : ℕ) (f : Found) (w : Walked) (e : w ≡ walked.Ended at f) (v : toldWalked w ≡ wayOf tally (walk reader [] 0 0 cut)) (h : toldAnswer x ≡ decidedIn m f at (roomOf t)) where
-    end : Ended reader tally m n at f
-    end = walk-ended reader tally m n at f (ap toldWalked (sym e) ∙ v ∙ ap (λ (s : List ℕ). wayOf tally (walk reader [] 0 0 s)) c)
+    end : Ended reader tally m (record { limit = n; room = roomOf t }) at f
+    end = walk-ended reader tally m (record { limit = n; room = roomOf t }) at f (ap toldWalked (sym e) ∙ v ∙ ap (λ (s : List ℕ). wayOf tally (walk reader [] 0 0 s)) c)
 
     told : toldAnswer x ≡ toldBy m (request m n (roomOf t))
     told = h ∙ request-told m n (roomOf t) at f end

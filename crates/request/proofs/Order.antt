@@ -13,14 +13,14 @@ use Rattle.nts.specs.Algorithm.{Described, unknown}
 use Rattle.nts.specs.Algorithm as algorithm
 use Rattle.record.specs.Record.{kind, critical}
 use Rattle.walk.specs.Walk.{Sighting}
-use Rattle.walk.specs.Judge.{Verdict, no, yes, some, withFirst, ofKind, bodyIn, refused, accepted}
+use Rattle.walk.specs.Judge.{Under, Verdict, no, yes, some, withFirst, ofKind, bodyIn, refused, accepted}
 use Rattle.walk.specs.Message.{Whole, Record, End, Each, recordsOf, flat, message, Parts}
 use Rattle.walk.specs.Table.{known}
 use Rattle.walk.proofs.Demand3 as every
 use Rattle.walk.proofs.Noted.{Inside, kind-inside}
 use Rattle.walk.proofs.Verdicts as verdicts
 use Rattle.walk.proofs.Verdicts.{accepted-held}
-use Rattle.request.specs.Request.{act, once, reader, Form, keyExchange, fixedKey, support, mapForm, keyed, fixedBy, decide, judgeBy, request}
+use Rattle.request.specs.Request.{act, once, reader, Form, keyExchange, fixedKey, support, mapForm, keyed, fixedBy, decide, judging, request}
 use Rattle.request.proofs.Lawful.{request-goes, request-lawful}
 
 -- m is accepted under the limit n and a table room, and its answer shows x
@@ -30,15 +30,18 @@ Shows m n room x = (q : Form Sighting) × (request m n room ≡ accepted q) × (
 -- each message that is accepted is records, an end record through which it fits the limit, and a tail of any bytes
 pub accepted-is : (m : List ℕ) (n room : ℕ) (q : Form Sighting) → request m n room ≡ accepted q → Parts Record End m n
 unfolding request
-accepted-is m n room q h = every.accepted-is act once request-goes (judgeBy room) m n q h
+accepted-is m n room q h = every.accepted-is act once request-goes judging m (record { limit = n; room = room }) q h
 
 module _ (n room : ℕ) where
+  abbrev asked : Under
+  asked = record { limit = n; room = room }
+
   -- the records before the end record in another order, denied names keeping theirs and cookies theirs; any other tail
   pub reordered : (cs cs′ : List (List ℕ)) (e t t′ : List ℕ) (q : Form Sighting) → Each Record cs → End e → List·Permᴰ cs cs′
       → recordsOf 13 cs ≡ recordsOf 13 cs′ → recordsOf 5 cs ≡ recordsOf 5 cs′ → request (message cs e t) n room ≡ accepted q
       → Shows (message cs′ e t′) n room (mapForm (bodyIn (message cs e t)) q)
   unfolding request
-  reordered = every.reordered act once request-goes (judgeBy room) (request-lawful room) n
+  reordered = every.reordered act once request-goes judging request-lawful asked
 
   -- a whole record of unknown kind, its bit clear, just before any record up to the end, if the message through its end still fits
   pub inserted : (xs ys : List (List ℕ)) (u e t t′ : List ℕ) (q : Form Sighting) → Each Record (xs ++ ys) → End e
@@ -46,7 +49,7 @@ module _ (n room : ℕ) where
       → request (message (xs ++ ys) e t) n room ≡ accepted q
       → Shows (message (xs ++ (u ∷ ys)) e t′) n room (mapForm (bodyIn (message (xs ++ ys) e t)) q)
   unfolding request
-  inserted = every.inserted act once request-goes (judgeBy room) (request-lawful room) n
+  inserted = every.inserted act once request-goes judging request-lawful asked
 
   -- with the bit set, under that condition: refusal 3, at that record
   pub inserted-critical : (xs ys : List (List ℕ)) (u e t t′ : List ℕ) (q : Form Sighting) → Each Record (xs ++ ys) → End e
@@ -54,7 +57,7 @@ module _ (n room : ℕ) where
       → request (message (xs ++ ys) e t) n room ≡ accepted q
       → request (message (xs ++ (u ∷ ys)) e t′) n room ≡ refused (record { number = 3; beside = nothing; place = length (flat xs) })
   unfolding request
-  inserted-critical = every.inserted-critical act once request-goes (judgeBy room) (request-lawful room) n
+  inserted-critical = every.inserted-critical act once request-goes judging request-lawful asked
 
 -- ---- where the parts of an accepted request lie
 
@@ -63,16 +66,16 @@ InsideForm N (keyExchange p a d) = Inside N (p ∷ a ∷ d)
 InsideForm N (fixedKey u x a p k) = Inside N (u ∷ x ∷ a ∷ p ∷ [])
 InsideForm N (support u p a k) = Inside N (u ∷ [])
 
-module _ (N room : ℕ) where
+module _ (N : ℕ) where
   abbrev Held : Verdict Form Sighting → Type 0
-  Held v = verdicts.Held (judgeBy room) (InsideForm N) v
+  Held v = verdicts.Held judging (InsideForm N) v
 
   held-if : (t : Bool) (v w : Verdict Form Sighting) → Held v → Held w → Held (cond t v w)
-  held-if t v w p q = verdicts.held-if (judgeBy room) (InsideForm N) t v w (λ e. p) (λ e. q)
+  held-if t v w p q = verdicts.held-if judging (InsideForm N) t v w (λ e. p) (λ e. q)
 
   held-first : (l : List Sighting) (v : Verdict Form Sighting) (f : Sighting → Verdict Form Sighting) → Inside N l → Held v
       → ((x : Sighting) → x .start + x .len ≤ N → Held (f x)) → Held (withFirst l v f)
-  held-first = verdicts.held-first (judgeBy room) (InsideForm N) N
+  held-first = verdicts.held-first judging (InsideForm N) N
 
   held-keyed : (d : Described) (n half : ℕ) (q : Form Sighting) → InsideForm N q → Held (keyed d n half q)
   unfolding keyed
@@ -83,9 +86,9 @@ module _ (N room : ℕ) where
   unfolding fixedBy
   held-fixed val u x a p k i = held-if (eqb (length (val p)) 2 && eqb (length (val a)) 2) _ _ (held-keyed _ _ _ (fixedKey u x a p k) i) tt
 
-  held-decide : (val : Sighting → List ℕ) (l : ℕ → List Sighting) → ((k : ℕ) → Inside N (l k)) → Held (decide room val l)
+  held-decide : (room : ℕ) (val : Sighting → List ℕ) (l : ℕ → List Sighting) → ((k : ℕ) → Inside N (l k)) → Held (decide room val l)
   unfolding decide
-  held-decide val l i =
+  held-decide room val l i =
       held-if (some (l 9) || some (l 10)) _ _
       (held-first (l 14) _ _ (i 14) tt (λ u hu. held-if (some (l 12) || some (l 1) || some (l 4)) _ _ tt (hu, tt)))
       (held-first (l 12) _ _ (i 12)
@@ -98,5 +101,5 @@ module _ (N room : ℕ) where
 pub accepted-inside : (m : List ℕ) (n room : ℕ) (q : Form Sighting) → request m n room ≡ accepted q → InsideForm (length m) q
 unfolding request
 accepted-inside m n room q =
-    accepted-held (judgeBy room) (InsideForm (length m)) reader m n q
+    accepted-held judging (InsideForm (length m)) reader m (record { limit = n; room = room }) q
     (λ st i. held-decide (length m) room (bodyIn m) (λ k. ofKind k st) (λ k. kind-inside (length m) k st i))

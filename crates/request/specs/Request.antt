@@ -79,12 +79,12 @@ decide room val l =
     (λ p. withFirst (l 4) (no 4 nothing)
     (λ a. fixedBy val u x a p (some (l 8)))))))
 
-abbrev pub judgeBy : ℕ → Judge
-judgeBy room = record { Q = Form; mapQ = λ {A} {B} f q. mapForm f q; decide = λ {A} val l. decide room val l }
+abbrev pub judging : Judge
+judging = record { Q = Form; mapQ = λ {A} {B} f q. mapForm f q; decide = λ u {A} val l. decide (u .room) val l }
 
 -- a message m read as if it were cut after n bytes, with a table that has room for so many names
 unfoldable pub request : List ℕ → ℕ → ℕ → judge.Answer Form
-request m n room = readBy reader (judgeBy room) m n
+request m n room = readBy reader judging m (record { limit = n; room = room })
 
 -- ---- what is answered
 

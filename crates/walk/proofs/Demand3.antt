@@ -13,7 +13,7 @@ use borrow.Author.Tests.{eqb-true}
 use Rattle.nts.specs.Refusal.{nothing}
 use Rattle.record.specs.Record.{kind, critical, there, shapeOf}
 use Rattle.walk.specs.Walk.{Act, ends, passes, refuses, Reader, faultIn, actIn, Sighting}
-use Rattle.walk.specs.Judge.{Judge, refused, accepted, readBy}
+use Rattle.walk.specs.Judge.{Under, Judge, refused, accepted, readBy}
 use Rattle.walk.specs.Message.{Whole, Record, End, Each, recordsOf, flat, message, Parts, contents, Shows}
 use Rattle.walk.specs.Table.{known, actBy, tableReader}
 use Rattle.walk.proofs.Chunks.{each-map}
@@ -94,8 +94,8 @@ module _ (f : ℕ → List ℕ → Act) (once : ℕ → Bool) (goes : (k : ℕ) 
   of-last e l = (l .0, ends-zero e (l .2))
 
   -- each message that is accepted is records, an end record through which it fits the limit, and a tail of any bytes
-  pub accepted-is : (D : Judge) (m : List ℕ) (n : ℕ) (q : D .Q Sighting) → readBy R D m n ≡ accepted q → Parts Record End m n
-  accepted-is D m n q h = record {
+  pub accepted-is : (D : Judge) (m : List ℕ) (u : Under) (q : D .Q Sighting) → readBy R D m u ≡ accepted q → Parts Record End m (u .limit)
+  accepted-is D m u q h = record {
     front = p .front;
     last = p .last;
     tail = p .tail;
@@ -105,21 +105,21 @@ module _ (f : ℕ → List ℕ → Act) (once : ℕ → Bool) (goes : (k : ℕ) 
     fits = p .fits;
   }
     where
-      p : Parts (Inner R) (Last R) m n
-      p = accepted-parts R D m n q h
+      p : Parts (Inner R) (Last R) m (u .limit)
+      p = accepted-parts R D m u q h
 
-  module _ (D : Judge) (L : Lawful R D) (n : ℕ) where
+  module _ (D : Judge) (L : Lawful R D) (u : Under) where
     -- what is accepted is good, in the sense of the laws
-    good : (cs : List (List ℕ)) (e t : List ℕ) (q : D .Q Sighting) → Each Record cs → End e → readBy R D (message cs e t) n ≡ accepted q
-        → Good R D L n cs e (contents D (message cs e t) q)
-    good cs e t q i l h = accepted-good R D L n cs e t (each-map inner-of cs i) (last-of e l) q h
+    good : (cs : List (List ℕ)) (e t : List ℕ) (q : D .Q Sighting) → Each Record cs → End e → readBy R D (message cs e t) u ≡ accepted q
+        → Good R D L u cs e (contents D (message cs e t) q)
+    good cs e t q i l h = accepted-good R D L u cs e t (each-map inner-of cs i) (last-of e l) q h
 
     -- the records before the end record in another order, denied names keeping theirs and cookies theirs; any other tail
     pub reordered : (cs cs′ : List (List ℕ)) (e t t′ : List ℕ) (q : D .Q Sighting) → Each Record cs → End e → List·Permᴰ cs cs′
-        → recordsOf 13 cs ≡ recordsOf 13 cs′ → recordsOf 5 cs ≡ recordsOf 5 cs′ → readBy R D (message cs e t) n ≡ accepted q
-        → Shows R D (message cs′ e t′) n (contents D (message cs e t) q)
+        → recordsOf 13 cs ≡ recordsOf 13 cs′ → recordsOf 5 cs ≡ recordsOf 5 cs′ → readBy R D (message cs e t) u ≡ accepted q
+        → Shows R D (message cs′ e t′) u (contents D (message cs e t) q)
     reordered cs cs′ e t t′ q i l d names cookies h =
-        good-shows R D L n e _ cs′ t′ (reorder R D L n e _ cs cs′ d kept (good cs e t q i l h))
+        good-shows R D L u e _ cs′ t′ (reorder R D L u e _ cs cs′ d kept (good cs e t q i l h))
       where
         same : (k : ℕ) → recordsOf k cs ≡ recordsOf k cs′ → bodiesOf R k cs ≡ bodiesOf R k cs′
         same k x = bodies-records R k cs ∙ ap (bodiesOf R k) x ∙ sym (bodies-records R k cs′)
@@ -128,22 +128,22 @@ module _ (f : ℕ → List ℕ → Act) (once : ℕ → Bool) (goes : (k : ℕ) 
         kept k s = by-keeps k (λ (j : ℕ). bodiesOf R j cs ≡ bodiesOf R j cs′) s (same 5 cookies) (same 13 names)
 
     -- a whole record of unknown kind, its bit clear, just before any record up to the end, if the message through its end still fits
-    pub inserted : (xs ys : List (List ℕ)) (u e t t′ : List ℕ) (q : D .Q Sighting) → Each Record (xs ++ ys) → End e
-        → Whole u → known (kind u) ≡ false → critical u ≡ false → length (flat (xs ++ (u ∷ ys))) + length e ≤ n
-        → readBy R D (message (xs ++ ys) e t) n ≡ accepted q
-        → Shows R D (message (xs ++ (u ∷ ys)) e t′) n (contents D (message (xs ++ ys) e t) q)
-    inserted xs ys u e t t′ q i l w k c f h =
+    pub inserted : (xs ys : List (List ℕ)) (c e t t′ : List ℕ) (q : D .Q Sighting) → Each Record (xs ++ ys) → End e
+        → Whole c → known (kind c) ≡ false → critical c ≡ false → length (flat (xs ++ (c ∷ ys))) + length e ≤ u .limit
+        → readBy R D (message (xs ++ ys) e t) u ≡ accepted q
+        → Shows R D (message (xs ++ (c ∷ ys)) e t′) u (contents D (message (xs ++ ys) e t) q)
+    inserted xs ys c e t t′ q i l w k b f h =
         let g = good (xs ++ ys) e t q i l h in
-        good-shows R D L n e _ (xs ++ (u ∷ ys)) t′ (insert-passed R D L n e _ xs ys u w (unknown-faultless u k w) g (unknown-act u k ∙ rw c) f)
+        good-shows R D L u e _ (xs ++ (c ∷ ys)) t′ (insert-passed R D L u e _ xs ys c w (unknown-faultless c k w) g (unknown-act c k ∙ rw b) f)
 
     -- with the bit set, under that condition: refusal 3, at that record
-    pub inserted-critical : (xs ys : List (List ℕ)) (u e t t′ : List ℕ) (q : D .Q Sighting) → Each Record (xs ++ ys) → End e
-        → Whole u → known (kind u) ≡ false → critical u ≡ true → length (flat (xs ++ (u ∷ ys))) + length e ≤ n
-        → readBy R D (message (xs ++ ys) e t) n ≡ accepted q
-        → readBy R D (message (xs ++ (u ∷ ys)) e t′) n ≡ refused (record { number = 3; beside = nothing; place = length (flat xs) })
-    inserted-critical xs ys u e t t′ q i l w k c f h =
+    pub inserted-critical : (xs ys : List (List ℕ)) (c e t t′ : List ℕ) (q : D .Q Sighting) → Each Record (xs ++ ys) → End e
+        → Whole c → known (kind c) ≡ false → critical c ≡ true → length (flat (xs ++ (c ∷ ys))) + length e ≤ u .limit
+        → readBy R D (message (xs ++ ys) e t) u ≡ accepted q
+        → readBy R D (message (xs ++ (c ∷ ys)) e t′) u ≡ refused (record { number = 3; beside = nothing; place = length (flat xs) })
+    inserted-critical xs ys c e t t′ q i l w k b f h =
         let g = good (xs ++ ys) e t q i l h in
-        let j = flat-append xs (u ∷ ys) in
-        let fits : length (flat xs) + length u ≤ n = omega (arith, simp length-append at (ap length j)) in
-        rw (j, append-assoc, append-assoc u (flat ys) (e ++ t′))
-        (insert-refused R D L n e _ xs ys u w (unknown-faultless u k w) g 3 nothing (message ys e t′) (unknown-act u k ∙ rw c) fits)
+        let j = flat-append xs (c ∷ ys) in
+        let fits : length (flat xs) + length c ≤ u .limit = omega (arith, simp length-append at (ap length j)) in
+        rw (j, append-assoc, append-assoc c (flat ys) (e ++ t′))
+        (insert-refused R D L u e _ xs ys c w (unknown-faultless c k w) g 3 nothing (message ys e t′) (unknown-act c k ∙ rw b) fits)

@@ -13,7 +13,7 @@ use lib.Dec.{eqb}
 use Rattle.nts.specs.Refusal.{Beside}
 use Rattle.record.specs.Record.{kind, there}
 use Rattle.walk.specs.Walk.{ends, passes, refuses, Reader, faultIn, actIn, Sighting, Outcome, stopped, ended, stops, meet, judge, step, walk}
-use Rattle.walk.specs.Judge.{Verdict, no, yes, Judge, ofKind, bodyIn, refused, accepted, placed, finish, readBy}
+use Rattle.walk.specs.Judge.{Verdict, no, yes, Under, Judge, ofKind, bodyIn, refused, accepted, placed, finish, readBy}
 use Rattle.walk.specs.Message.{Whole, Each, flat, message, Parts, contents, Shows}
 use Rattle.walk.proofs.Chunks.{size-append, there-append, each-map, unroll-chunk, walk-run}
 use Rattle.walk.proofs.Passing.{reached, isCalm, calm-goes, sightingAt, seenIn, noted, Passed, sightingsIn, run-passed, take-over, Inner, Last, reached-passed, split}
@@ -32,11 +32,11 @@ keeps k = eqb k 5 || eqb k 13
 
 pub record Lawful (R : Reader) (D : Judge) : Type 1 where
   -- the verdict is over the bodies, whatever stands for them
-  pub natural : {A : Type 0} (f : A → List ℕ) (l : ℕ → List A)
-      → mapVerdict D f (D .decide f l) ≡ D .decide (λ (b : List ℕ). b) (λ k. map f (l k))
+  pub natural : (u : Under) {A : Type 0} (f : A → List ℕ) (l : ℕ → List A)
+      → mapVerdict D f (D .decide u f l) ≡ D .decide u (λ (b : List ℕ). b) (λ k. map f (l k))
   -- it is the same for the same bodies of each kind that may stand once or keeps its order, and as many of every other
-  pub stable : (l l′ : ℕ → List (List ℕ)) → ((k : ℕ) → (R .once k || keeps k) ≡ true → l k ≡ l′ k)
-      → ((k : ℕ) → length (l k) ≡ length (l′ k)) → D .decide (λ (b : List ℕ). b) l ≡ D .decide (λ (b : List ℕ). b) l′
+  pub stable : (u : Under) (l l′ : ℕ → List (List ℕ)) → ((k : ℕ) → (R .once k || keeps k) ≡ true → l k ≡ l′ k)
+      → ((k : ℕ) → length (l k) ≡ length (l′ k)) → D .decide u (λ (b : List ℕ). b) l ≡ D .decide u (λ (b : List ℕ). b) l′
 
 -- ---- the parts noted are the records' bodies
 
@@ -100,107 +100,107 @@ module _ (R : Reader) where
     step-refused n b u f a = rw (f, a)
 
   -- a record that is refused by itself, after records that the walk passes
-  pub read-refused : (D : Judge) (n : ℕ) (cs : List (List ℕ)) (u t : List ℕ) (k : ℕ) (b : Beside) → Each (Inner R) cs → Passed R (seenIn []) cs → Whole u
-      → faultIn R u ≡ 0 → actIn R u ≡ refuses k b → length (flat cs) + length u ≤ n
-      → readBy R D (message cs u t) n ≡ refused (record { number = k; beside = b; place = length (flat cs) })
+  pub read-refused : (D : Judge) (u : Under) (cs : List (List ℕ)) (x t : List ℕ) (k : ℕ) (b : Beside) → Each (Inner R) cs → Passed R (seenIn []) cs → Whole x
+      → faultIn R x ≡ 0 → actIn R x ≡ refuses k b → length (flat cs) + length x ≤ u .limit
+      → readBy R D (message cs x t) u ≡ refused (record { number = k; beside = b; place = length (flat cs) })
   unfolding readBy finish
-  read-refused D n cs u t k b i p w z a f =
-      rw (walk-stops n cs u t _ i p w f (step-refused (sightingsIn R 0 cs) (length (flat cs)) k b u z a))
+  read-refused D u cs x t k b i p w z a f =
+      rw (walk-stops (u .limit) cs x t _ i p w f (step-refused (sightingsIn R 0 cs) (length (flat cs)) k b x z a))
 
 -- ---- a message that is accepted
 
-pub accepted-reached : (R : Reader) (D : Judge) (m : List ℕ) (n : ℕ) (q : D .Q Sighting) → readBy R D m n ≡ accepted q
-    → reached (walk R [] 0 0 (take n m)) ≡ true
+pub accepted-reached : (R : Reader) (D : Judge) (m : List ℕ) (u : Under) (q : D .Q Sighting) → readBy R D m u ≡ accepted q
+    → reached (walk R [] 0 0 (take (u .limit) m)) ≡ true
 unfolding readBy finish
-accepted-reached R D m n q h = go (walk R [] 0 0 (take n m)) h
+accepted-reached R D m u q h = go (walk R [] 0 0 (take (u .limit) m)) h
   where
-    go : (o : Outcome) → finish D m o ≡ accepted q → reached o ≡ true
+    go : (o : Outcome) → finish D u m o ≡ accepted q → reached o ≡ true
     go (stopped r) g = cc
     go (ended at next st) g = refl
 
 -- it is whole records that do not end it, one that does, within the limit, and a tail
-pub accepted-parts : (R : Reader) (D : Judge) (m : List ℕ) (n : ℕ) (q : D .Q Sighting) → readBy R D m n ≡ accepted q
-    → Parts (Inner R) (Last R) m n
-accepted-parts R D m n q h = record {
+pub accepted-parts : (R : Reader) (D : Judge) (m : List ℕ) (u : Under) (q : D .Q Sighting) → readBy R D m u ≡ accepted q
+    → Parts (Inner R) (Last R) m (u .limit)
+accepted-parts R D m u q h = record {
   front = p .front;
   last = p .last;
-  tail = p .tail ++ drop n m;
-  joined = sym (take-append-drop n m) ∙ ap (λ (s : List ℕ). s ++ drop n m) (p .joined) ∙ simp append-assoc;
+  tail = p .tail ++ drop (u .limit) m;
+  joined = sym (take-append-drop (u .limit) m) ∙ ap (λ (s : List ℕ). s ++ drop (u .limit) m) (p .joined) ∙ simp append-assoc;
   each = p .each;
   ends = p .ends;
-  fits = omega (arith, p .fits, length-take n m);
+  fits = omega (arith, p .fits, length-take (u .limit) m);
 }
   where
-    p : Parts (Inner R) (Last R) (take n m) (length (take n m))
-    p = split R [] 0 (take n m) (accepted-reached R D m n q h)
+    p : Parts (Inner R) (Last R) (take (u .limit) m) (length (take (u .limit) m))
+    p = split R [] 0 (take (u .limit) m) (accepted-reached R D m u q h)
 
 module _ (R : Reader) (D : Judge) (L : Lawful R D) where
   -- what is decided from the records alone
-  unfoldable pub shown : List (List ℕ) → Verdict (D .Q) (List ℕ)
-  shown cs = D .decide (λ (b : List ℕ). b) (λ k. bodiesOf R k cs)
+  unfoldable pub shown : Under → List (List ℕ) → Verdict (D .Q) (List ℕ)
+  shown u cs = D .decide u (λ (b : List ℕ). b) (λ k. bodiesOf R k cs)
 
-  -- what is asked of records and an end record, to be accepted under a limit and to show x
-  pub record Good (n : ℕ) (cs : List (List ℕ)) (e : List ℕ) (x : D .Q (List ℕ)) : Type 0 where
+  -- what holds of records and an end record that are accepted under what is asked and show x
+  pub record Good (u : Under) (cs : List (List ℕ)) (e : List ℕ) (x : D .Q (List ℕ)) : Type 0 where
     pub inner : Each (Inner R) cs
     pub last : Last R e
     pub passed : Passed R (seenIn []) cs
-    pub fits : length (flat cs) + length e ≤ n
-    pub shows : shown cs ≡ yes x
+    pub fits : length (flat cs) + length e ≤ u .limit
+    pub shows : shown u cs ≡ yes x
 
-  module _ (n : ℕ) (cs : List (List ℕ)) (e t : List ℕ) (inner : Each (Inner R) cs) (last : Last R e) where
+  module _ (u : Under) (cs : List (List ℕ)) (e t : List ℕ) (inner : Each (Inner R) cs) (last : Last R e) where
     abbrev m : List ℕ
     m = message cs e t
 
     abbrev verdict : Verdict (D .Q) Sighting
-    verdict = D .decide (bodyIn m) (λ k. ofKind k (sightingsIn R 0 cs))
+    verdict = D .decide u (bodyIn m) (λ k. ofKind k (sightingsIn R 0 cs))
 
-    verdict-shown : mapVerdict D (bodyIn m) verdict ≡ shown cs
+    verdict-shown : mapVerdict D (bodyIn m) verdict ≡ shown u cs
     unfolding shown
     verdict-shown =
-        L .natural (bodyIn m) (λ k. ofKind k (sightingsIn R 0 cs))
-        ∙ ap (D .decide (λ (b : List ℕ). b)) (λ j k. bodies-noted R m (e ++ t) k 0 cs (wholes R cs inner) refl j)
+        L .natural u (bodyIn m) (λ k. ofKind k (sightingsIn R 0 cs))
+        ∙ ap (D .decide u (λ (b : List ℕ). b)) (λ j k. bodies-noted R m (e ++ t) k 0 cs (wholes R cs inner) refl j)
 
-    read-verdict : Passed R (seenIn []) cs → length (flat cs) + length e ≤ n → readBy R D m n ≡ placed (length (flat cs)) verdict
+    read-verdict : Passed R (seenIn []) cs → length (flat cs) + length e ≤ u .limit → readBy R D m u ≡ placed (length (flat cs)) verdict
     unfolding readBy finish
     read-verdict p f =
         let s = step-last R (sightingsIn R 0 cs) (length (flat cs)) e last in
-        rw (walk-stops R n cs e t _ inner p (last .0) f s)
+        rw (walk-stops R (u .limit) cs e t _ inner p (last .0) f s)
 
     -- refused after the end record, at its place
-    pub decided-no : (k : ℕ) (b : Beside) → Passed R (seenIn []) cs → length (flat cs) + length e ≤ n → shown cs ≡ no k b
-        → readBy R D m n ≡ refused (record { number = k; beside = b; place = length (flat cs) })
+    pub decided-no : (k : ℕ) (b : Beside) → Passed R (seenIn []) cs → length (flat cs) + length e ≤ u .limit → shown u cs ≡ no k b
+        → readBy R D m u ≡ refused (record { number = k; beside = b; place = length (flat cs) })
     decided-no k b p f s = read-verdict p f ∙ ap (placed (length (flat cs))) (go verdict (verdict-shown ∙ s))
       where
         go : (v : Verdict (D .Q) Sighting) → mapVerdict D (bodyIn m) v ≡ no k b → v ≡ no k b
         go (no j c) h = cc
         go (yes q) h = cc
 
-    pub accepted-good : (q : D .Q Sighting) → readBy R D m n ≡ accepted q → Good n cs e (contents D m q)
+    pub accepted-good : (q : D .Q Sighting) → readBy R D m u ≡ accepted q → Good u cs e (contents D m q)
     accepted-good q h =
-        let r = reached-passed R [] 0 n cs e t inner (last .0) (accepted-reached R D m n q h) in
+        let r = reached-passed R [] 0 (u .limit) cs e t inner (last .0) (accepted-reached R D m u q h) in
         let v : verdict ≡ yes q = placed-yes verdict (sym (read-verdict (r .1) (r .0)) ∙ h) in
-        let s : shown cs ≡ yes (contents D m q) = sym verdict-shown ∙ ap (mapVerdict D (bodyIn m)) v in
+        let s : shown u cs ≡ yes (contents D m q) = sym verdict-shown ∙ ap (mapVerdict D (bodyIn m)) v in
         record { inner = inner; last = last; passed = r .1; fits = r .0; shows = s }
       where
         placed-yes : (v : Verdict (D .Q) Sighting) → placed (length (flat cs)) v ≡ accepted q → v ≡ yes q
         placed-yes (no k b) g = cc
         placed-yes (yes q′) g = cc
 
-  module _ (n : ℕ) (e : List ℕ) (x : D .Q (List ℕ)) where
-    pub good-shows : (cs : List (List ℕ)) (t : List ℕ) → Good n cs e x → Shows R D (message cs e t) n x
+  module _ (u : Under) (e : List ℕ) (x : D .Q (List ℕ)) where
+    pub good-shows : (cs : List (List ℕ)) (t : List ℕ) → Good u cs e x → Shows R D (message cs e t) u x
     good-shows cs t g =
-        let v = verdict n cs e t (g .inner) (g .last) in
-        go v (read-verdict n cs e t (g .inner) (g .last) (g .passed) (g .fits)) (verdict-shown n cs e t (g .inner) (g .last) ∙ g .shows)
+        let v = verdict u cs e t (g .inner) (g .last) in
+        go v (read-verdict u cs e t (g .inner) (g .last) (g .passed) (g .fits)) (verdict-shown u cs e t (g .inner) (g .last) ∙ g .shows)
       where
-        go : (v : Verdict (D .Q) Sighting) → readBy R D (message cs e t) n ≡ placed (length (flat cs)) v
-            → mapVerdict D (bodyIn (message cs e t)) v ≡ yes x → Shows R D (message cs e t) n x
+        go : (v : Verdict (D .Q) Sighting) → readBy R D (message cs e t) u ≡ placed (length (flat cs)) v
+            → mapVerdict D (bodyIn (message cs e t)) v ≡ yes x → Shows R D (message cs e t) u x
         go (no k b) a h = let z : _≡_ {A = ℕ} 0 1 = cc in absurd (omega arith)
         go (yes q) a h = (q, a, cc)
 
     -- ---- records in another order
 
     pub reorder : (cs cs′ : List (List ℕ)) → List·Permᴰ cs cs′ → ((k : ℕ) → keeps k ≡ true → bodiesOf R k cs ≡ bodiesOf R k cs′)
-        → Good n cs e x → Good n cs′ e x
+        → Good u cs e x → Good u cs′ e x
     unfolding shown
     reorder cs cs′ d kept g =
         record {
@@ -208,7 +208,7 @@ module _ (R : Reader) (D : Judge) (L : Lawful R D) where
           last = g .last;
           passed = passed-perm R (seenIn []) d (g .passed);
           fits = omega (arith, flat-perm d, g .fits);
-          shows = sym (L .stable _ _ (λ k b. same k (R .once k) refl b) (λ k. count-perm R k d)) ∙ g .shows;
+          shows = sym (L .stable u _ _ (λ k b. same k (R .once k) refl b) (λ k. count-perm R k d)) ∙ g .shows;
         }
       where
         same : (k : ℕ) (b : Bool) → R .once k ≡ b → (b || keeps k) ≡ true → bodiesOf R k cs ≡ bodiesOf R k cs′
@@ -217,21 +217,21 @@ module _ (R : Reader) (D : Judge) (L : Lawful R D) where
 
     -- ---- a record more, which is passed over or refused
 
-    module _ (xs ys : List (List ℕ)) (u : List ℕ) (whole : Whole u) (faultless : faultIn R u ≡ 0) (g : Good n (xs ++ ys) e x) where
-      pub insert-passed : actIn R u ≡ passes → length (flat (xs ++ (u ∷ ys))) + length e ≤ n → Good n (xs ++ (u ∷ ys)) e x
+    module _ (xs ys : List (List ℕ)) (c : List ℕ) (whole : Whole c) (faultless : faultIn R c ≡ 0) (g : Good u (xs ++ ys) e x) where
+      pub insert-passed : actIn R c ≡ passes → length (flat (xs ++ (c ∷ ys))) + length e ≤ u .limit → Good u (xs ++ (c ∷ ys)) e x
       unfolding shown
       insert-passed a f =
           record {
-            inner = each-insert (Inner R) u xs ys (whole, calm-goes (actIn R u) (ap isCalm a)) (g .inner);
+            inner = each-insert (Inner R) c xs ys (whole, calm-goes (actIn R c) (ap isCalm a)) (g .inner);
             last = g .last;
-            passed = passed-insert R u a (seenIn []) xs ys faultless (g .passed);
+            passed = passed-insert R c a (seenIn []) xs ys faultless (g .passed);
             fits = f;
-            shows = ap (D .decide (λ (b : List ℕ). b)) (λ j k. bodies-insert R u a k xs ys j) ∙ g .shows;
+            shows = ap (D .decide u (λ (b : List ℕ). b)) (λ j k. bodies-insert R c a k xs ys j) ∙ g .shows;
           }
 
-      pub insert-refused : (k : ℕ) (b : Beside) (t : List ℕ) → actIn R u ≡ refuses k b → length (flat xs) + length u ≤ n
-          → readBy R D (message xs u t) n ≡ refused (record { number = k; beside = b; place = length (flat xs) })
+      pub insert-refused : (k : ℕ) (b : Beside) (t : List ℕ) → actIn R c ≡ refuses k b → length (flat xs) + length c ≤ u .limit
+          → readBy R D (message xs c t) u ≡ refused (record { number = k; beside = b; place = length (flat xs) })
       insert-refused k b t a f =
           let i = each-front (Inner R) xs ys (g .inner) in
           let p = passed-front R (seenIn []) xs ys (g .passed) in
-          read-refused R D n xs u t k b i p whole faultless a f
+          read-refused R D u xs c t k b i p whole faultless a f

@@ -11,7 +11,7 @@ use borrow.Author.Tests.{eq-eqb}
 use Rattle.nts.specs.Refusal.{Beside}
 use Rattle.record.specs.Record.{kind, there}
 use Rattle.walk.specs.Walk.{notes, Reader, faultIn, actIn, has}
-use Rattle.walk.specs.Judge.{no, yes, Judge, refused, readBy}
+use Rattle.walk.specs.Judge.{no, yes, Under, Judge, refused, readBy}
 use Rattle.walk.specs.Message.{Whole, Each, flat, message, Shows}
 use Rattle.walk.proofs.Chunks.{each-map}
 use Rattle.walk.proofs.Passing.{isCalm, calm-goes, seenIn, noted, mark, Passed, Inner, Last}
@@ -116,19 +116,19 @@ module _ (R : Reader) where
 
 -- ---- a message of them
 
-module _ (R : Reader) (D : Judge) (L : Lawful R D) (n : ℕ) (cs : List (List ℕ)) (e t : List ℕ) (l : ℕ → List (List ℕ)) (h : Noted R cs l)
-    (once : (k : ℕ) → R .once k ≡ true → length (l k) ≤ 1) (last : Last R e) (fits : length (flat cs) + length e ≤ n) where
+module _ (R : Reader) (D : Judge) (L : Lawful R D) (u : Under) (cs : List (List ℕ)) (e t : List ℕ) (l : ℕ → List (List ℕ)) (h : Noted R cs l)
+    (once : (k : ℕ) → R .once k ≡ true → length (l k) ≤ 1) (last : Last R e) (fits : length (flat cs) + length e ≤ u .limit) where
   passed : Passed R (seenIn []) cs
   unfolding has
   passed = calm-passed R (seenIn []) cs (h .each) (λ k o. rw (h .bodies k) (once k o))
 
-  same : D .decide (λ (b : List ℕ). b) (λ k. bodiesOf R k cs) ≡ D .decide (λ (b : List ℕ). b) l
-  same = ap (D .decide (λ (b : List ℕ). b)) (λ j k. h .bodies k j)
+  same : D .decide u (λ (b : List ℕ). b) (λ k. bodiesOf R k cs) ≡ D .decide u (λ (b : List ℕ). b) l
+  same = ap (D .decide u (λ (b : List ℕ). b)) (λ j k. h .bodies k j)
 
   -- accepted where the decision over the bodies is, and so shown
-  pub noted-shows : (x : D .Q (List ℕ)) → D .decide (λ (b : List ℕ). b) l ≡ yes x → Shows R D (message cs e t) n x
+  pub noted-shows : (x : D .Q (List ℕ)) → D .decide u (λ (b : List ℕ). b) l ≡ yes x → Shows R D (message cs e t) u x
   unfolding shown
-  noted-shows x y = good-shows R D L n e x cs t (record {
+  noted-shows x y = good-shows R D L u e x cs t (record {
     inner = calm-inner R cs (h .each);
     last = last;
     passed = passed;
@@ -137,7 +137,7 @@ module _ (R : Reader) (D : Judge) (L : Lawful R D) (n : ℕ) (cs : List (List �
   })
 
   -- refused where it is, at the end record's place
-  pub noted-refused : (k : ℕ) (b : Beside) → D .decide (λ (b : List ℕ). b) l ≡ no k b
-      → readBy R D (message cs e t) n ≡ refused (record { number = k; beside = b; place = length (flat cs) })
+  pub noted-refused : (k : ℕ) (b : Beside) → D .decide u (λ (b : List ℕ). b) l ≡ no k b
+      → readBy R D (message cs e t) u ≡ refused (record { number = k; beside = b; place = length (flat cs) })
   unfolding shown
-  noted-refused k b y = decided-no R D L n cs e t (calm-inner R cs (h .each)) last k b passed fits (same ∙ y)
+  noted-refused k b y = decided-no R D L u cs e t (calm-inner R cs (h .each)) last k b passed fits (same ∙ y)

@@ -14,12 +14,17 @@ pub data Verdict (Q : Type 0 → Type 0) (A : Type 0) : Type 0 where
   no : ℕ → Beside → Verdict Q A
   yes : Q A → Verdict Q A
 
+-- what a read is asked under: after how many bytes the message is cut, and for how many records the lent table has room
+pub record Under : Type 0 where
+  pub limit : ℕ
+  pub room : ℕ
+
 pub record Judge : Type 1 where
   -- the form of an accepted answer, over what stands for a body
   pub Q : Type 0 → Type 0
   pub mapQ : {A B : Type 0} → (A → B) → Q A → Q B
-  -- from what shows a body's bytes, and from the bodies found of each kind, in record order
-  pub decide : {A : Type 0} → (A → List ℕ) → (ℕ → List A) → Verdict Q A
+  -- under what is asked, from what shows a body's bytes, and from the bodies found of each kind, in record order
+  pub decide : Under → {A : Type 0} → (A → List ℕ) → (ℕ → List A) → Verdict Q A
 
 -- what was noted of a kind, in record order
 abbrev pub ofKind : ℕ → List Sighting → List Sighting
@@ -53,10 +58,10 @@ abbrev pub placed : {Q : Type 0 → Type 0} → ℕ → Verdict Q Sighting → A
 placed at (no n b) = refused (record { number = n; beside = b; place = at })
 placed at (yes q) = accepted q
 
-unfoldable pub finish : (D : Judge) → List ℕ → Outcome → Answer (D .Q)
-finish D m (stopped r) = refused r
-finish D m (ended at next st) = placed at (D .decide (bodyIn m) (λ k. ofKind k st))
+unfoldable pub finish : (D : Judge) → Under → List ℕ → Outcome → Answer (D .Q)
+finish D u m (stopped r) = refused r
+finish D u m (ended at next st) = placed at (D .decide u (bodyIn m) (λ k. ofKind k st))
 
--- a message m read as if it were cut after n bytes
-unfoldable pub readBy : Reader → (D : Judge) → List ℕ → ℕ → Answer (D .Q)
-readBy R D m n = finish D m (walk R [] 0 0 (take n m))
+-- a message m read under what is asked: as if it were cut after so many bytes
+unfoldable pub readBy : Reader → (D : Judge) → List ℕ → Under → Answer (D .Q)
+readBy R D m u = finish D u m (walk R [] 0 0 (take (u .limit) m))

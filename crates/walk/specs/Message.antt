@@ -8,7 +8,7 @@ use lib.ListN.{length}
 use lib.Dec.{eqb}
 use Rattle.record.specs.Record.{kind, size}
 use Rattle.walk.specs.Walk.{Reader, Sighting}
-use Rattle.walk.specs.Judge.{Judge, bodyIn, accepted, readBy}
+use Rattle.walk.specs.Judge.{Under, Judge, bodyIn, accepted, readBy}
 
 -- ---- records
 
@@ -59,6 +59,6 @@ pub record Parts (P E : List ℕ → Type 0) (m : List ℕ) (n : ℕ) : Type 0 w
 abbrev pub contents : (D : Judge) → List ℕ → D .Q Sighting → D .Q (List ℕ)
 contents D m q = D .mapQ (bodyIn m) q
 
--- m is accepted under the limit n, and its answer shows x
-abbrev pub Shows : Reader → (D : Judge) → List ℕ → ℕ → D .Q (List ℕ) → Type 0
-Shows R D m n x = (q : D .Q Sighting) × (readBy R D m n ≡ accepted q) × (contents D m q ≡ x)
+-- m is accepted under what is asked, and its answer shows x
+abbrev pub Shows : Reader → (D : Judge) → List ℕ → Under → D .Q (List ℕ) → Type 0
+Shows R D m u x = (q : D .Q Sighting) × (readBy R D m u ≡ accepted q) × (contents D m q ≡ x)
