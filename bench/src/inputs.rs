@@ -2,7 +2,10 @@
 
 pub const MOST_NAMES: usize = 2000;
 pub const COOKIES: usize = 8;
+/// The longest message that the crate's files read as they stand.
+pub const CRATE_LIMIT: usize = 4096;
 const COOKIE: usize = 100;
+const UNKNOWN: usize = 200;
 const LISTS: [u8; 12] = [0x80, 1, 0, 2, 0, 0, 0x80, 4, 0, 2, 0, 15];
 const END: [u8; 4] = [0x80, 0, 0, 0];
 
@@ -16,6 +19,12 @@ pub fn request(names: usize) -> Vec<u8> {
     message.extend(END);
     assert_eq!(message.len(), 16 + 32 * names);
     message
+}
+
+/// A key-exchange request behind two hundred records of unknown kind, each of 16 bytes and with its bit clear.
+pub fn unknown() -> Vec<u8> {
+    let records = (0..UNKNOWN).flat_map(|index| [vec![0, 15, 0, 16], vec![index as u8; 16]].concat());
+    records.chain(LISTS).chain(END).collect()
 }
 
 pub fn cookie(index: usize) -> Vec<u8> {

@@ -34,14 +34,21 @@ fn main() {
     names();
 }
 
-/// The sixteen bytes, then 150 and 2,000 denied names of 28 bytes; the last two are read by the copy with the raised limit.
+/// The sixteen bytes, 200 unknown records before them, then 150 and 2,000 denied names of 28 bytes; the last two are read by the copy with the
+/// raised limit.
 fn requests() {
     let mut table = vec![0; 2 * inputs::MOST_NAMES];
     let mut answer = [0; ours::CELLS];
-    for (name, count, bar) in [("request16", 0, 5.0), ("request150", 150, 8.0), ("request2000", 2000, 8.0)] {
-        let message = inputs::request(count);
+    let rows = [
+        ("request16", inputs::request(0), 8.0),
+        ("unknown200", inputs::unknown(), 8.0),
+        ("request150", inputs::request(150), 11.0),
+        ("request2000", inputs::request(2000), 10.0),
+    ];
+    for (name, message, bar) in rows {
+        let long = message.len() > inputs::CRATE_LIMIT;
         for cut in inputs::cuts(&message) {
-            clock::same(name, ours::request(cut, &mut table), theirs::request(cut, count != 0));
+            clock::same(name, ours::request(cut, &mut table), theirs::request(cut, long));
         }
         row(
             name,
@@ -50,7 +57,7 @@ fn requests() {
                 black_box(ours::read_request(black_box(&message), &mut table, &mut answer));
             },
             || {
-                black_box(theirs::read_request(black_box(&message), count != 0));
+                black_box(theirs::read_request(black_box(&message), long));
             },
         );
     }
@@ -66,7 +73,7 @@ fn replies() {
     }
     row(
         "reply8",
-        8.0,
+        11.0,
         || {
             black_box(ours::read_reply(black_box(&message), &mut table, &mut answer));
         },

@@ -9,7 +9,6 @@ use Rattle.handing.proofs.ntske_entry.Reads as ntske-entry
 use Rattle.handing.proofs.ntske_number.Reads as ntske-number
 use Rattle.handing.proofs.ntske_pair.Reads as ntske-pair
 use Rattle.handing.proofs.ntske_choose.Reads as ntske-choose
-use Rattle.handing.proofs.ntske_is_utf8.Reads as ntske-is-utf8
 
 pub ntske-part-same : (κs : _) (a : _) (r r′ : _) (e e′ : _) → ntske-part.Learnt κs a r e → ntske-part.Learnt κs a r′ e′ → (r ≡ r′) × (now (e .1 .1 .1 .0) ≡ now (e′ .1 .1 .1 .0))
 ntske-part-same κs a r r′ e e′ p q = gives-same p q
@@ -25,6 +24,3 @@ ntske-pair-same κs a r r′ e e′ p q = gives-same p q
 
 pub ntske-choose-same : (κs : _) (a : _) (r r′ : _) (e e′ : _) → ntske-choose.Learnt κs a r e → ntske-choose.Learnt κs a r′ e′ → (r ≡ r′) × (now (e .1 .1 .1 .1 .0) ≡ now (e′ .1 .1 .1 .1 .0))
 ntske-choose-same κs a r r′ e e′ p q = gives-same p q
-
-pub ntske-is-utf8-same : (κs : _) (a : _) (r r′ : _) (e e′ : _) → ntske-is-utf8.Learnt κs a r e → ntske-is-utf8.Learnt κs a r′ e′ → r ≡ r′
-ntske-is-utf8-same κs a r r′ e e′ p q = p ∙ sym q

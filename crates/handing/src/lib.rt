@@ -1,4 +1,4 @@
-// The calls that hand out a part of a message, an entry of a table and an entry of a list, choose, and test for UTF-8, for a host in C or Rust.
+// The calls that hand out a part of a message, an entry of a table and an entry of a list, and choose, for a host in C or Rust.
 use cells::NO_ROOM;
 use negotiation::Choice;
 use record::DescriptionAt;
@@ -10,10 +10,9 @@ ghost use Prim.Native.Nat.{_≤_};
 ghost use lib.ListN.{length, getD};
 ghost use Rattle.wire.specs.Bytes.{partAt};
 ghost use Rattle.wire.specs.Over.{over};
-ghost use Rattle.utf8.specs.Utf8.{wellFormed};
 ghost use Rattle.record.specs.Entry.{numberIn, pairIn};
 ghost use Rattle.negotiation.specs.Negotiation as choices;
-ghost use Rattle.cells.specs.Cells.{flag, Gives};
+ghost use Rattle.cells.specs.Cells.{Gives};
 ghost use Rattle.handing.specs.Handed.{partCells, entryCells, numberCells, choiceNumber, choiceCells};
 
 // A part of a message as it is handed out. Answer, two cells: its start and length, 0 and 0 where it is not inside the message.
@@ -121,14 +120,6 @@ pub extern "C" fn ntske_choose(
         }
         Choice::Refused(error) => error.number() as u32,
     }
-}
-
-// 1 where the bytes are UTF-8, and 0 where they are not.
-#[no_mangle]
-pub extern "C" fn ntske_is_utf8(bytes: &[u8]) -> u32
-    ensures { λ r. ⌜ r ≡ flag (wellFormed (now (bytes .entry))) ⌝ }
-{
-    if utf8::is_utf8(bytes) { 1 } else { 0 }
 }
 
 // The cell of a table at an index, and 0 where there is none.

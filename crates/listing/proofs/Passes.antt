@@ -1,6 +1,6 @@
 -- The two passes over the records: what the lines passed so far leave of the room, and what they are in the output.
 -- Assumes nothing.
-use mathlib.Core.Path.{_≡_, refl, sym, ap, _∙_}
+use mathlib.Core.Path.{_≡_, refl, sym, ap, _∙_, subst}
 use mathlib.Core.Bool.{true, false}
 use mathlib.Core.List.{List, [], _++_, append-assoc, append-nil}
 use Prim.Native.Nat.{ℕ, _+_, _-_, _<_, _≤_}
@@ -8,87 +8,93 @@ use native.Mathlib.Omega.{arith}
 use borrow.Author.Tests.{leb-true, leb-false, le-leb, lt-leb}
 use borrow.Rule.Slice.PartMut.{midOf, putMid}
 use lib.Dec.{leb}
-use lib.ListN.{length, drop, length-append}
+use lib.ListN.{length, length-append}
 use Rattle.wire.specs.Over.{Put, Tried}
 use Rattle.wire.proofs.Over.{length-over, over-none, put-as, try-then}
-use Rattle.listing.specs.Listing.{Last, recordLines}
-use Rattle.listing.specs.Code.{rowLine, linesBy, LineAt}
-use Rattle.listing.specs.declared.Row.{Row}
+use Rattle.record.specs.declared.Glance.{Glance}
+use Rattle.walk.specs.Walk.{Sighting}
+use Rattle.listing.specs.Code.{rowLine, stopFrom, linesFrom, LinesBy, LineAt}
 use Rattle.listing.specs.declared.Line.{Line}
 use Rattle.listing.specs.declared.Line.the-variants as line
 use Rattle.listing.proofs.Digits.{on}
 
--- what a line found says of the lines from there on
-here : {l : Last} {m : List ℕ} {at : ℕ} {r : Line} (r′ : Line) → LineAt l m at r → r ≡ r′ → recordLines l at 0 (drop at m) ≡ linesBy l m at r′
-here {l} {m} {at} r′ a e = a .same ∙ ap (linesBy l m at) e
+-- what a line found says of the lines from there on, where the walk goes by there to its place
+here : {s : List ℕ} {place at : ℕ} {r : Line} (st : List Sighting) (r′ : Line) → LineAt s place at r → place ≡ stopFrom s st at → r ≡ r′ → LinesBy s st at r′
+here {s} {place} {at} st r′ a p e = subst (LinesBy s st at) e (a .same st p)
 
--- ---- the first pass: m is the message, `at` the place, and `left` what is left of the room
+-- ---- the first pass: s is the message, `at` the place, and `left` what is left of the room
 
-pub record Fitting (l : Last) (m : List ℕ) (room at left : ℕ) : Type 0 where
-  pub inside : at ≤ length m
-  pub same : length (recordLines l 0 0 m) + left ≡ length (recordLines l at 0 (drop at m)) + room
+pub record Fitting (s : List ℕ) (place room at left : ℕ) : Type 0 where
+  pub state : List Sighting
+  pub stop : place ≡ stopFrom s state at
+  pub same : length (linesFrom s [] 0) + left ≡ length (linesFrom s state at) + room
 
-pub fitting-start : (l : Last) (m : List ℕ) (room : ℕ) → Fitting l m room 0 room
-fitting-start l m room = record { inside = omega arith; same = refl }
+pub fitting-start : (s : List ℕ) (place room : ℕ) → place ≡ stopFrom s [] 0 → Fitting s place room 0 room
+fitting-start s place room p = record { state = []; stop = p; same = refl }
 
-module _ {l : Last} {m : List ℕ} {room at left : ℕ} {r : Line} (g : Fitting l m room at left) (a : LineAt l m at r) where
-  pub fits-none : r ≡ line.None → true ≡ leb (length (recordLines l 0 0 m)) room
-  fits-none e = let h = ap length (here line.None a e) in sym (le-leb (length (recordLines l 0 0 m)) room (omega (arith, g .same)))
+module _ {s : List ℕ} {place room at left : ℕ} {r : Line} (g : Fitting s place room at left) (a : LineAt s place at r) where
+  pub fits-none : r ≡ line.None → true ≡ leb (length (linesFrom s [] 0)) room
+  fits-none e = let h = ap length (here (g .state) line.None a (g .stop) e) in sym (le-leb (length (linesFrom s [] 0)) room (omega (arith, g .same)))
 
-  pub fits-last : (x : Row) (n : ℕ) → r ≡ line.Last x → n ≡ length (rowLine at x) → leb n left ≡ leb (length (recordLines l 0 0 m)) room
+  pub fits-last : (x : Glance) (n : ℕ) → r ≡ line.Last x → n ≡ length (rowLine at x) → leb n left ≡ leb (length (linesFrom s [] 0)) room
   fits-last x n e q =
-      let h = ap length (here (line.Last x) a e) in
+      let h = ap length (here (g .state) (line.Last x) a (g .stop) e) in
       on (leb n left)
-      (λ t. t ∙ sym (le-leb (length (recordLines l 0 0 m)) room (omega (arith, g .same, leb-true n left t))))
-      (λ t. t ∙ sym (lt-leb (length (recordLines l 0 0 m)) room (omega (arith, g .same, leb-false n left t))))
+      (λ t. t ∙ sym (le-leb (length (linesFrom s [] 0)) room (omega (arith, g .same, leb-true n left t))))
+      (λ t. t ∙ sym (lt-leb (length (linesFrom s [] 0)) room (omega (arith, g .same, leb-false n left t))))
 
-  module _ (x : Row) (next n : ℕ) (e : r ≡ line.More x next) (q : n ≡ length (rowLine at x)) where
-    more : length (recordLines l at 0 (drop at m)) ≡ n + length (recordLines l next 0 (drop next m))
-    more = ap length (here (line.More x next) a e) ∙ length-append (rowLine at x) (recordLines l next 0 (drop next m)) ∙ ap (λ (k : ℕ). k + length (recordLines l next 0 (drop next m))) (sym q)
+  module _ (x : Glance) (next n : ℕ) (e : r ≡ line.More x next) (q : n ≡ length (rowLine at x)) where
+    onward : LinesBy s (g .state) at (line.More x next)
+    onward = here (g .state) (line.More x next) a (g .stop) e
 
-    pub fits-not : left < n → false ≡ leb (length (recordLines l 0 0 m)) room
-    fits-not h = sym (lt-leb (length (recordLines l 0 0 m)) room (omega (arith, g .same, more)))
+    more : length (linesFrom s (g .state) at) ≡ n + length (linesFrom s (onward .0) next)
+    more = ap length (onward .1) ∙ length-append (rowLine at x) (linesFrom s (onward .0) next) ∙ ap (λ (k : ℕ). k + length (linesFrom s (onward .0) next)) (sym q)
 
-    pub fits-on : n ≤ left → Fitting l m room next (left - n)
-    fits-on h = record { inside = a .onward x next e .1; same = omega (arith, g .same, more) }
+    pub fits-not : left < n → false ≡ leb (length (linesFrom s [] 0)) room
+    fits-not h = sym (lt-leb (length (linesFrom s [] 0)) room (omega (arith, g .same, more)))
+
+    pub fits-on : n ≤ left → Fitting s place room next (left - n)
+    fits-on h = record { state = onward .0; stop = g .stop ∙ onward .2; same = omega (arith, g .same, more) }
 
 -- ---- the second pass: o₀ is the output as it was lent and o as it is now, and `to` the place in it
 
-pub record Writing (l : Last) (m o₀ o : List ℕ) (at to : ℕ) : Type 0 where
-  pub inside : at ≤ length m
+pub record Writing (s : List ℕ) (place : ℕ) (o₀ o : List ℕ) (at to : ℕ) : Type 0 where
+  pub state : List Sighting
+  pub stop : place ≡ stopFrom s state at
   pub room : to ≤ length o
   pub long : length o ≡ length o₀
   pub done : List ℕ
   pub put : Put (length done) done o₀ to o
-  pub same : recordLines l 0 0 m ≡ done ++ recordLines l at 0 (drop at m)
+  pub same : linesFrom s [] 0 ≡ done ++ linesFrom s state at
 
-pub writing-start : (l : Last) (m o : List ℕ) → Writing l m o o 0 0
-writing-start l m o = record { inside = omega arith; room = omega arith; long = refl; done = []; put = record { count = refl; size = refl; left = sym (over-none o) }; same = refl }
+pub writing-start : (s : List ℕ) (place : ℕ) (o : List ℕ) → place ≡ stopFrom s [] 0 → Writing s place o o 0 0
+writing-start s place o p = record { state = []; stop = p; room = omega arith; long = refl; done = []; put = record { count = refl; size = refl; left = sym (over-none o) }; same = refl }
 
 -- a writer that had room leaves the output as long as it was
 put-long : {n r : ℕ} {b o o′ : List ℕ} → Put n b o r o′ → n ≤ length o → length o′ ≡ length o
 put-long {n} {r} {b} {o} {o′} p h = ap length (p .left) ∙ length-over b o (omega (arith, p .size))
 
-module _ {l : Last} {m o₀ o : List ℕ} {at to : ℕ} {r : Line} (fits : length (recordLines l 0 0 m) ≤ length o₀) (g : Writing l m o₀ o at to) (a : LineAt l m at r) where
-  pub writing-none : r ≡ line.None → Put (length (recordLines l 0 0 m)) (recordLines l 0 0 m) o₀ to o
+module _ {s : List ℕ} {place : ℕ} {o₀ o : List ℕ} {at to : ℕ} {r : Line} (fits : length (linesFrom s [] 0) ≤ length o₀) (g : Writing s place o₀ o at to) (a : LineAt s place at r) where
+  pub writing-none : r ≡ line.None → Put (length (linesFrom s [] 0)) (linesFrom s [] 0) o₀ to o
   writing-none e =
-      let h : g .done ≡ recordLines l 0 0 m = sym (g .same ∙ ap (λ (k : List ℕ). g .done ++ k) (here line.None a e) ∙ append-nil (g .done)) in
+      let h : g .done ≡ linesFrom s [] 0 = sym (g .same ∙ ap (λ (k : List ℕ). g .done ++ k) (here (g .state) line.None a (g .stop) e) ∙ append-nil (g .done)) in
       put-as (g .put) (ap length h) h
 
-  pub writing-last : (x : Row) {k : ℕ} {o₂ : List ℕ} → r ≡ line.Last x → Tried (length (rowLine at x)) (rowLine at x) (midOf to (length o - to) o) k o₂
-      → Put (length (recordLines l 0 0 m)) (recordLines l 0 0 m) o₀ (to + k) (putMid to (length o - to) o o₂)
+  pub writing-last : (x : Glance) {k : ℕ} {o₂ : List ℕ} → r ≡ line.Last x → Tried (length (rowLine at x)) (rowLine at x) (midOf to (length o - to) o) k o₂
+      → Put (length (linesFrom s [] 0)) (linesFrom s [] 0) o₀ (to + k) (putMid to (length o - to) o o₂)
   writing-last x e t =
-      let h : g .done ++ rowLine at x ≡ recordLines l 0 0 m = sym (g .same ∙ ap (λ (k : List ℕ). g .done ++ k) (here (line.Last x) a e)) in
-      let n : length (g .done) + length (rowLine at x) ≡ length (recordLines l 0 0 m) = sym (length-append (g .done) (rowLine at x)) ∙ ap length h in
+      let h : g .done ++ rowLine at x ≡ linesFrom s [] 0 = sym (g .same ∙ ap (λ (k : List ℕ). g .done ++ k) (here (g .state) (line.Last x) a (g .stop) e)) in
+      let n : length (g .done) + length (rowLine at x) ≡ length (linesFrom s [] 0) = sym (length-append (g .done) (rowLine at x)) ∙ ap length h in
       put-as (try-then (g .put) t (omega (arith, n))) n h
 
-  pub writing-on : (x : Row) (next : ℕ) {k : ℕ} {o₂ : List ℕ} → r ≡ line.More x next → Tried (length (rowLine at x)) (rowLine at x) (midOf to (length o - to) o) k o₂
-      → Writing l m o₀ (putMid to (length o - to) o o₂) next (to + k)
+  pub writing-on : (x : Glance) (next : ℕ) {k : ℕ} {o₂ : List ℕ} → r ≡ line.More x next → Tried (length (rowLine at x)) (rowLine at x) (midOf to (length o - to) o) k o₂
+      → Writing s place o₀ (putMid to (length o - to) o o₂) next (to + k)
   writing-on x next {k} {o₂} e t =
-      let rest = recordLines l next 0 (drop next m) in
-      let h : recordLines l 0 0 m ≡ (g .done ++ rowLine at x) ++ rest = g .same ∙ ap (λ (k : List ℕ). g .done ++ k) (here (line.More x next) a e) ∙ sym (append-assoc (g .done) (rowLine at x) rest) in
+      let f = here (g .state) (line.More x next) a (g .stop) e in
+      let rest = linesFrom s (f .0) next in
+      let h : linesFrom s [] 0 ≡ (g .done ++ rowLine at x) ++ rest = g .same ∙ ap (λ (k : List ℕ). g .done ++ k) (f .1) ∙ sym (append-assoc (g .done) (rowLine at x) rest) in
       let n : length (g .done ++ rowLine at x) ≡ length (g .done) + length (rowLine at x) = length-append (g .done) (rowLine at x) in
-      let w : length (recordLines l 0 0 m) ≡ length (g .done ++ rowLine at x) + length rest = ap length h ∙ length-append (g .done ++ rowLine at x) rest in
+      let w : length (linesFrom s [] 0) ≡ length (g .done ++ rowLine at x) + length rest = ap length h ∙ length-append (g .done ++ rowLine at x) rest in
       let p : Put (length (g .done ++ rowLine at x)) (g .done ++ rowLine at x) o₀ (to + k) (putMid to (length o - to) o o₂) = put-as (try-then (g .put) t (omega (arith, n, w))) (sym n) refl in
       let z : length (putMid to (length o - to) o o₂) ≡ length o₀ = put-long p (omega (arith, w)) in
-      record { inside = a .onward x next e .1; room = omega (arith, z, p .count, w); long = z; done = g .done ++ rowLine at x; put = p; same = h }
+      record { state = f .0; stop = g .stop ∙ f .2; room = omega (arith, z, p .count, w); long = z; done = g .done ++ rowLine at x; put = p; same = h }

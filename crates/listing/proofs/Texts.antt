@@ -7,15 +7,15 @@ use native.Mathlib.Omega.{arith}
 use borrow.Rule.Slice.PartMut.{midOf, putMid}
 use lib.ListN.{length, take, drop, length-append}
 use lib.Seq.{take-at}
-use Rattle.wire.specs.Over.{over, Put, Tried}
+use Rattle.wire.specs.Over.{over, Tried}
 use Rattle.wire.proofs.Over.{over-none, put-as, put-then, rest-room}
 use Rattle.nts.specs.Refusal.{numberOf, Beside, besideOf, toldCode, toldRefusal}
 use Rattle.nts.specs.declared.Code.{Code}
 use Rattle.nts.specs.declared.Refusal.{Refusal}
+use Rattle.record.specs.declared.Glance.{Glance}
 use Rattle.request.specs.Request.{refusedWith}
 use Rattle.listing.specs.Listing.{space, newline, digits, mark, recordLine, protocolsText, algorithmsText, deniedText, refusedText, atText, besideText, answerText}
 use Rattle.listing.specs.Code.{PutMost, rowLine, rowText}
-use Rattle.listing.specs.declared.Row.{Row}
 
 -- a total writer that had room
 pub most : {b o o′ : List ℕ} {r : ℕ} → length b ≤ length o → Tried (length b) b o r o′ → PutMost (length b) b o r o′
@@ -71,10 +71,10 @@ refusal-text f n c en ec =
 after-one : (a y b z d w : List ℕ) → a ++ ((y ++ b) ++ ((z ++ d) ++ w)) ≡ a ++ (y ++ (b ++ (z ++ (d ++ w))))
 after-one a y b z d w = simp append-assoc
 
-pub row-text : (x : Row) → (((space ∷ []) ++ digits (x .kind)) ++ ((space ∷ mark (x .critical) ∷ space ∷ []) ++ digits (x .size))) ++ (newline ∷ []) ≡ rowText x
+pub row-text : (x : Glance) → (((space ∷ []) ++ digits (x .kind)) ++ ((space ∷ mark (x .critical) ∷ space ∷ []) ++ digits (x .size))) ++ (newline ∷ []) ≡ rowText x
 unfolding rowText
 row-text x = append-assoc ((space ∷ []) ++ digits (x .kind)) ((space ∷ mark (x .critical) ∷ space ∷ []) ++ digits (x .size)) (newline ∷ [])
 
-pub line-text : (at : ℕ) (x : Row) → digits at ++ rowText x ≡ rowLine at x
+pub line-text : (at : ℕ) (x : Glance) → digits at ++ rowText x ≡ rowLine at x
 unfolding recordLine rowText
 line-text at x = after-one (digits at) (space ∷ []) (digits (x .kind)) (space ∷ mark (x .critical) ∷ space ∷ []) (digits (x .size)) (newline ∷ [])

@@ -1,6 +1,6 @@
 -- The whole listing: heading, lines and last line, and whether they fit.
 -- Assumes nothing.
-use mathlib.Core.Path.{_≡_, refl, sym, ap, _∙_}
+use mathlib.Core.Path.{_≡_, sym, ap, _∙_}
 use mathlib.Core.Bool.{true, false}
 use mathlib.Core.List.{List, [], _∷_, _++_, append-assoc}
 use Prim.Native.Nat.{ℕ, _+_, _-_, _<_, _≤_}
@@ -10,40 +10,53 @@ use lib.Dec.{leb}
 use lib.ListN.{length, take, length-append}
 use Rattle.wire.specs.Over.{Put, Tried}
 use Rattle.wire.proofs.Over.{put-as, tried-not, tried-put}
-use Rattle.request.specs.Request.{Told}
-use Rattle.listing.specs.Listing.{newline, heading, recordLines, answerText, lastOf, listing}
-use Rattle.listing.specs.Code.{PutMost}
+use Rattle.request.specs.Request.{Told, toldAnswer, Judges}
+use Rattle.request.specs.declared.Judged.{Judged}
+use Rattle.listing.specs.Listing.{newline, heading, answerText, listing}
+use Rattle.listing.specs.Code.{PutMost, stopFrom, linesFrom}
 use Rattle.listing.proofs.Texts.{made}
 
 -- the last line, with its newline
 abbrev lastLine : Told → List ℕ
 lastLine t = answerText t ++ (newline ∷ [])
 
-parts : (m : List ℕ) (t : Told) → (heading ++ recordLines (lastOf t) 0 0 m) ++ lastLine t ≡ listing m t
-unfolding listing
-parts m t = append-assoc heading (recordLines (lastOf t) 0 0 m) (lastLine t)
+-- s is the message m as it is cut after n bytes, and x what the reader answers for it and where the walk stopped
+module _ (m : List ℕ) (n room : ℕ) (s : List ℕ) (cut : s ≡ take n m) (x : Judged) (j : Judges m n room x) where
+  abbrev lines : List ℕ
+  lines = linesFrom s [] 0
 
-long : (m : List ℕ) (t : Told) → length (listing m t) ≡ 20 + length (recordLines (lastOf t) 0 0 m) + length (lastLine t)
-long m t =
-    sym (ap length (parts m t))
-    ∙ length-append (heading ++ recordLines (lastOf t) 0 0 m) (lastLine t)
-    ∙ ap (λ (k : ℕ). k + length (lastLine t)) (length-append heading (recordLines (lastOf t) 0 0 m))
+  abbrev last : List ℕ
+  last = lastLine (toldAnswer (x .answer))
 
--- z′ is the array in which the last line was made, n its length
-module _ (m : List ℕ) (t : Told) (o : List ℕ) {k n : ℕ} {z z′ : List ℕ} (p : PutMost k (answerText t ++ (newline ∷ [])) z n z′) where
-  pub list-short : length o < 20 + n → Tried (length (listing m t)) (listing m t) o 0 o
-  list-short h = tried-not (omega (arith, long m t, p .put .count))
+  pub list-stop : x .place ≡ stopFrom s [] 0
+  list-stop = j .stopped ∙ ap (λ (t : List ℕ). stopFrom t [] 0) (sym cut)
 
-  pub list-long : 20 + n ≤ length o → false ≡ leb (length (recordLines (lastOf t) 0 0 m)) (length o - 20 - n) → Tried (length (listing m t)) (listing m t) o 0 o
-  list-long h e = tried-not (omega (arith, long m t, p .put .count, leb-false (length (recordLines (lastOf t) 0 0 m)) (length o - 20 - n) (sym e)))
+  parts : (heading ++ lines) ++ last ≡ listing m n room
+  unfolding listing
+  parts =
+      append-assoc heading lines last
+      ∙ ap (λ (t : List ℕ). heading ++ (linesFrom t [] 0 ++ last)) cut
+      ∙ ap (λ (t : Told). heading ++ (linesFrom (take n m) [] 0 ++ lastLine t)) (j .says)
 
-  module _ (h : 20 + n ≤ length o) (e : true ≡ leb (length (recordLines (lastOf t) 0 0 m)) (length o - 20 - n)) where
-    pub list-room : 20 + length (recordLines (lastOf t) 0 0 m) + length (take (n - 0) z′) ≤ length o
-    list-room = rw (made p) (omega (arith, p .put .count, leb-true (length (recordLines (lastOf t) 0 0 m)) (length o - 20 - n) (sym e)))
+  long : length (listing m n room) ≡ 20 + length lines + length last
+  long =
+      sym (ap length parts)
+      ∙ length-append (heading ++ lines) last
+      ∙ ap (λ (k : ℕ). k + length last) (length-append heading lines)
 
-    pub list-put : {r : ℕ} {o′ : List ℕ}
-        → Put (20 + length (recordLines (lastOf t) 0 0 m) + length (take (n - 0) z′)) ((heading ++ recordLines (lastOf t) 0 0 m) ++ take (n - 0) z′) o r o′
-        → Tried (length (listing m t)) (listing m t) o r o′
-    list-put q =
-        let room : length (listing m t) ≤ length o = omega (arith, long m t, list-room, ap length (made p)) in
-        tried-put room (put-as (rw (made p) at q) (sym (long m t)) (parts m t))
+  -- z′ is the array in which the last line was made, i its length
+  module _ (o : List ℕ) {k i : ℕ} {z z′ : List ℕ} (p : PutMost k (answerText (toldAnswer (x .answer)) ++ (newline ∷ [])) z i z′) where
+    pub list-short : length o < 20 + i → Tried (length (listing m n room)) (listing m n room) o 0 o
+    list-short h = tried-not (omega (arith, long, p .put .count))
+
+    pub list-long : 20 + i ≤ length o → false ≡ leb (length lines) (length o - 20 - i) → Tried (length (listing m n room)) (listing m n room) o 0 o
+    list-long h e = tried-not (omega (arith, long, p .put .count, leb-false (length lines) (length o - 20 - i) (sym e)))
+
+    module _ (h : 20 + i ≤ length o) (e : true ≡ leb (length lines) (length o - 20 - i)) where
+      pub list-room : 20 + length lines + length (take (i - 0) z′) ≤ length o
+      list-room = rw (made p) (omega (arith, p .put .count, leb-true (length lines) (length o - 20 - i) (sym e)))
+
+      pub list-put : {r : ℕ} {o′ : List ℕ} → Put (20 + length lines + length (take (i - 0) z′)) ((heading ++ lines) ++ take (i - 0) z′) o r o′ → Tried (length (listing m n room)) (listing m n room) o r o′
+      list-put q =
+          let fits : length (listing m n room) ≤ length o = omega (arith, long, list-room, ap length (made p)) in
+          tried-put fits (put-as (rw (made p) at q) (sym long) parts)

@@ -1,13 +1,15 @@
 -- What the code holds of a listing: one line as the loops see it, and a writer of a short text into an array with room for it.
-use Prim.Native.Nat.{ℕ, _+_, _<_, _≤_}
+use Prim.Native.Nat.{ℕ, _<_, _≤_}
 use mathlib.Core.Path.{_≡_}
 use mathlib.Core.List.{List, [], _∷_, _++_}
 use lib.ListN.{length, drop}
-use Rattle.wire.specs.Bytes.{numberAt}
 use Rattle.wire.specs.Over.{Put}
-use Rattle.record.specs.Record.{kindOf, criticalOf}
-use Rattle.listing.specs.Listing.{space, newline, digits, mark, recordLine, Last, recordLines}
-use Rattle.listing.specs.declared.Row.{Row}
+use Rattle.record.specs.declared.Glance.{Glance}
+use Rattle.walk.specs.Walk.{Sighting, walk}
+use Rattle.walk.specs.Shown.{Mark, shown}
+use Rattle.walk.specs.Found.{placeOf}
+use Rattle.request.specs.Request.{reader}
+use Rattle.listing.specs.Listing.{space, newline, digits, mark, lineOf, linesOf}
 use Rattle.listing.specs.declared.Line.{Line}
 use Rattle.listing.specs.declared.Line.the-variants as line
 
@@ -16,23 +18,32 @@ pub record PutMost (most : ℕ) (b o : List ℕ) (r : ℕ) (o′ : List ℕ) : T
   pub put : Put (length b) b o r o′
   pub within : r ≤ most
 
--- the record at a place of the message m
-abbrev pub rowIn : List ℕ → ℕ → Row
-rowIn m at = record { kind = kindOf (numberAt m at); critical = criticalOf (numberAt m at); size = numberAt m (at + 2) }
+abbrev pub markOf : ℕ → Glance → Mark
+markOf at x = record { place = at; kind = x .kind; critical = x .critical; size = x .size }
 
-abbrev pub rowLine : ℕ → Row → List ℕ
-rowLine at x = recordLine at (x .kind) (x .critical) (x .size)
+-- the line of the record at a place
+abbrev pub rowLine : ℕ → Glance → List ℕ
+rowLine at x = lineOf (markOf at x)
 
--- .. and what stands behind its place
-unfoldable pub rowText : Row → List ℕ
+-- what stands behind a line's place
+unfoldable pub rowText : Glance → List ℕ
 rowText x = ((space ∷ []) ++ digits (x .kind)) ++ (((space ∷ mark (x .critical) ∷ space ∷ []) ++ digits (x .size)) ++ (newline ∷ []))
 
--- the lines from a place of the message m on: none, one, or one and those from the place after it on
-abbrev pub linesBy : Last → List ℕ → ℕ → Line → List ℕ
-linesBy l m at line.None = []
-linesBy l m at (line.Last x) = rowLine at x
-linesBy l m at (line.More x next) = rowLine at x ++ recordLines l next 0 (drop next m)
+-- where a walk over the message s that is at a place with the records st noted stops
+abbrev pub stopFrom : List ℕ → List Sighting → ℕ → ℕ
+stopFrom s st at = placeOf (walk reader st at 0 (drop at s))
 
-pub record LineAt (l : Last) (m : List ℕ) (at : ℕ) (r : Line) : Type 0 where
-  pub same : recordLines l at 0 (drop at m) ≡ linesBy l m at r
-  pub onward : (x : Row) (next : ℕ) → r ≡ line.More x next → (at < next) × (next ≤ length m)
+-- the lines of the records that it meets from there on
+abbrev pub linesFrom : List ℕ → List Sighting → ℕ → List ℕ
+linesFrom s st at = linesOf (shown reader st at 0 (drop at s))
+
+-- what a line found at a place says of them: none, one, or one and those from the place after it on, where the walk stops at the same place
+abbrev pub LinesBy : List ℕ → List Sighting → ℕ → Line → Type 0
+LinesBy s st at line.None = linesFrom s st at ≡ []
+LinesBy s st at (line.Last x) = linesFrom s st at ≡ rowLine at x
+LinesBy s st at (line.More x next) =
+    (st′ : List Sighting) × (linesFrom s st at ≡ rowLine at x ++ linesFrom s st′ next) × (stopFrom s st at ≡ stopFrom s st′ next)
+
+pub record LineAt (s : List ℕ) (place at : ℕ) (r : Line) : Type 0 where
+  pub same : (st : List Sighting) → place ≡ stopFrom s st at → LinesBy s st at r
+  pub onward : (x : Glance) (next : ℕ) → r ≡ line.More x next → (at < next) × (next ≤ length s)

@@ -1,11 +1,12 @@
 -- The listing of a message: 01, "The listing program", to the letter.
 use Prim.Native.Nat.{ℕ, zero, suc, _+_, _/_, _%_}
 use mathlib.Core.List.{List, [], _∷_, _++_}
-use mathlib.Core.Bool.{Bool, cond, _||_}
-use lib.Dec.{ltb, eqb}
+use mathlib.Core.Bool.{Bool, cond}
+use lib.ListN.{take}
+use lib.Dec.{ltb}
 use Rattle.nts.specs.Refusal.{Beside, nothing, code}
-use Rattle.record.specs.Record.{kind, critical, size, fault}
-use Rattle.request.specs.Request.{Told, keyExchangeIs, fixedKeyIs, supportIs, refusedWith}
+use Rattle.walk.specs.Shown.{Mark, shown}
+use Rattle.request.specs.Request.{reader, request, Told, keyExchangeIs, fixedKeyIs, supportIs, refusedWith, toldBy}
 
 -- ---- text, as bytes
 
@@ -33,28 +34,16 @@ mark bit = cond bit 99 45
 
 -- ---- a line for each record that reads whole, up to and with the end record or the one refused
 
--- the record at the front of s, which begins at `at`
+-- of a place, a kind, a bit and a size
 unfoldable pub recordLine : ℕ → ℕ → Bool → ℕ → List ℕ
 recordLine at k bit n = digits at ++ (space ∷ (digits k ++ (space ∷ mark bit ∷ space ∷ (digits n ++ (newline ∷ [])))))
 
--- the places at which a listing ends besides an end record: that of the record refused, if any
-pub data Last : Type 0 where
-  none : Last
-  place : ℕ → Last
+abbrev pub lineOf : Mark → List ℕ
+lineOf x = recordLine (x .place) (x .kind) (x .critical) (x .size)
 
-abbrev pub isLast : Last → ℕ → Bool
-isLast none at = Bool.false
-isLast (place p) at = eqb at p
-
--- from s on, which begins at `at`, after k more bytes of the record begun
-unfoldable pub recordLines : Last → ℕ → ℕ → List ℕ → List ℕ
-recordLines l at k [] = []
-recordLines l at (suc k) (b ∷ s) = recordLines l at k s
-recordLines l at zero (b ∷ s) =
-    cond (eqb (fault (b ∷ s)) 0)
-    (recordLine at (kind (b ∷ s)) (critical (b ∷ s)) (size (b ∷ s))
-    ++ cond (eqb (kind (b ∷ s)) 0 || isLast l at) [] (recordLines l (at + (4 + size (b ∷ s))) (3 + size (b ∷ s)) s))
-    []
+abbrev pub linesOf : List Mark → List ℕ
+linesOf [] = []
+linesOf (x ∷ l) = lineOf x ++ linesOf l
 
 -- ---- the last line
 
@@ -94,12 +83,9 @@ answerText (fixedKeyIs u c s a p k) = fixedText
 answerText (supportIs u p a k) = supportText
 answerText (refusedWith r) = refusedText ++ (digits (r .number) ++ (atText ++ (digits (r .place) ++ besideText (r .beside))))
 
-abbrev pub lastOf : Told → Last
-lastOf (keyExchangeIs p a d) = none
-lastOf (fixedKeyIs u c s a p k) = none
-lastOf (supportIs u p a k) = none
-lastOf (refusedWith r) = place (r .place)
+-- ---- the whole listing
 
--- the whole listing of a message, already cut, and what the request reader answered for it; every line ends in a newline, the last too
-unfoldable pub listing : List ℕ → Told → List ℕ
-listing m t = heading ++ (recordLines (lastOf t) 0 0 m ++ (answerText t ++ (newline ∷ [])))
+-- of a message m, of which the first n bytes are read, and what the request reader answers for it with room for so many names; every line ends in
+-- a newline, the last too
+unfoldable pub listing : List ℕ → ℕ → ℕ → List ℕ
+listing m n room = heading ++ (linesOf (shown reader [] 0 0 (take n m)) ++ (answerText (toldBy m (request m n room)) ++ (newline ∷ [])))

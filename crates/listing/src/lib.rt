@@ -1,79 +1,76 @@
 // The listing of a message: a line for each record that reads whole, and one for what the request reader answered.
 use nts::Code;
 use nts::Refusal;
+use record::Glance;
+use record::Looked;
 use record::NtsRecord;
-use record::Parsed;
 use request::Answer;
 use request::Request;
 ghost use mathlib.Core.Path.{_≡_};
-ghost use mathlib.Core.Bool.{_||_};
 ghost use mathlib.Core.List.{[], _∷_, _++_};
 ghost use Prim.Native.Nat.{_+_, _≤_};
 ghost use lib.ListN.{length};
-ghost use lib.Dec.{leb, eqb};
+ghost use lib.Dec.{leb};
 ghost use Rattle.wire.specs.Over.{Put, Tried};
 ghost use Rattle.nts.specs.Refusal.{toldCode, toldRefusal};
-ghost use Rattle.record.specs.Record.{kindOf, criticalOf};
 ghost use Rattle.request.specs.Request.{refusedWith, toldAnswer};
-ghost use Rattle.listing.specs.Listing.{space, newline, digits, heading, mark, isLast, recordLines, protocolsText, algorithmsText, deniedText, besideText, answerText, lastOf, listing};
-ghost use Rattle.listing.specs.Code.{PutMost, rowIn, rowLine, rowText, LineAt};
-
-// What a line tells of a record besides its place.
-struct Row {
-    kind: u16,
-    critical: bool,
-    size: u16,
-}
+ghost use Rattle.listing.specs.Listing.{space, newline, digits, heading, mark, protocolsText, algorithmsText, deniedText, besideText, answerText, listing};
+ghost use Rattle.listing.specs.Code.{PutMost, rowLine, rowText, stopFrom, linesFrom, LineAt};
 
 // The line of the record at a place, if it has one, and the place of the next record that may have one.
 enum Line {
     None,
-    Last(Row),
-    More(Row, usize),
+    Last(Glance),
+    More(Glance, usize),
 }
 
-// The longest line of a record, and more than the longest last line.
+// The length of the heading, the longest line of a record, and more than the longest last line.
+const HEADING: usize = 20;
+
 const LINE: usize = 65;
 
 const LAST_LINE: usize = 112;
 
-// The whole listing of a message, already cut at its limit, for what the request reader answered: how many bytes that is,
-// or 0 and nothing written where there is no room.
-pub fn list(message: &[u8], answer: Answer, out: &mut [u8]) -> usize
-    ensures { λ r. ⌜ Tried (length (listing (now (message .entry)) (toldAnswer answer)))
-        (listing (now (message .entry)) (toldAnswer answer)) (now (out .entry)) r (now (out .exit)) ⌝ }
+// The whole listing of a message read as if it were cut after `limit` bytes, and of what the request reader answers for it with room for so many
+// names: how many bytes that is, or 0 and nothing written where there is no room. The lines are of the records that the reader's walk met.
+pub fn list(message: &[u8], limit: u16, room: usize, out: &mut [u8]) -> usize
+    ensures { λ r. ⌜ Tried (length (listing (now (message .entry)) limit room)) (listing (now (message .entry)) limit room) (now (out .entry)) r (now (out .exit)) ⌝ }
 {
+    let judged = Request::judge(message, limit, room);
+    let answer = judged.answer;
+    let place = judged.place;
     let mut last = [0u8; LAST_LINE];
     let n = put_last(answer, &mut last);
-    if out.len() < 20 + n {
+    if out.len() < HEADING + n {
         return 0;
     }
-    if lines_fit(message, answer, out.len() - 20 - n) {
-        return put_all(message, answer, &last[0..n], out);
+    let cut = walk::cut_at(message, limit);
+    if lines_fit(cut, place, out.len() - HEADING - n) {
+        return put_all(cut, place, &last[0..n], out);
     }
     0
 }
 
 // Heading, records and last line, into an output that has room for them.
-fn put_all(message: &[u8], answer: Answer, last: &[u8], out: &mut [u8]) -> usize
-    requires { ⌜ 20 + length (recordLines (lastOf (toldAnswer answer)) 0 0 (now message)) + length (now last) ≤ length (now out) ⌝ }
-    ensures { λ r. ⌜ Put (20 + length (recordLines (lastOf (toldAnswer answer)) 0 0 (now (message .entry))) + length (now (last .entry)))
-        ((heading ++ recordLines (lastOf (toldAnswer answer)) 0 0 (now (message .entry))) ++ now (last .entry))
-        (now (out .entry)) r (now (out .exit)) ⌝ }
+fn put_all(cut: &[u8], place: usize, last: &[u8], out: &mut [u8]) -> usize
+    requires { ⌜ (place ≡ stopFrom (now cut) [] 0) × (20 + length (linesFrom (now cut) [] 0) + length (now last) ≤ length (now out)) ⌝ }
+    ensures { λ r. ⌜ Put (20 + length (linesFrom (now (cut .entry)) [] 0) + length (now (last .entry)))
+        ((heading ++ linesFrom (now (cut .entry)) [] 0) ++ now (last .entry)) (now (out .entry)) r (now (out .exit)) ⌝ }
 {
     let a = wire::put_bytes(b"place type bit size\n", out);
-    let b = a + put_lines(message, answer, &mut out[a..]);
+    let b = a + put_lines(cut, place, &mut out[a..]);
     b + wire::put_bytes(last, &mut out[b..])
 }
 
-// Whether the lines of the records take no more than `room` bytes; nothing is summed up past that.
-fn lines_fit(message: &[u8], answer: Answer, room: usize) -> bool
-    ensures { λ r. ⌜ r ≡ leb (length (recordLines (lastOf (toldAnswer answer)) 0 0 (now (message .entry)))) room ⌝ }
+// Whether the lines of the records take no more than `room` bytes; nothing is summed up past that. The walk over these bytes stops at `place`.
+fn lines_fit(cut: &[u8], place: usize, room: usize) -> bool
+    requires { ⌜ place ≡ stopFrom (now cut) [] 0 ⌝ }
+    ensures { λ r. ⌜ r ≡ leb (length (linesFrom (now (cut .entry)) [] 0)) room ⌝ }
 {
     let mut at: usize = 0;
     let mut left = room;
     loop {
-        let line = line_at(message, answer, at);
+        let line = line_at(cut, place, at);
         match line {
             Line::None => {
                 return true;
@@ -94,15 +91,14 @@ fn lines_fit(message: &[u8], answer: Answer, room: usize) -> bool
 }
 
 // The lines of the records, into an output that has room for them.
-fn put_lines(message: &[u8], answer: Answer, out: &mut [u8]) -> usize
-    requires { ⌜ length (recordLines (lastOf (toldAnswer answer)) 0 0 (now message)) ≤ length (now out) ⌝ }
-    ensures { λ r. ⌜ Put (length (recordLines (lastOf (toldAnswer answer)) 0 0 (now (message .entry))))
-        (recordLines (lastOf (toldAnswer answer)) 0 0 (now (message .entry))) (now (out .entry)) r (now (out .exit)) ⌝ }
+fn put_lines(cut: &[u8], place: usize, out: &mut [u8]) -> usize
+    requires { ⌜ (place ≡ stopFrom (now cut) [] 0) × (length (linesFrom (now cut) [] 0) ≤ length (now out)) ⌝ }
+    ensures { λ r. ⌜ Put (length (linesFrom (now (cut .entry)) [] 0)) (linesFrom (now (cut .entry)) [] 0) (now (out .entry)) r (now (out .exit)) ⌝ }
 {
     let mut at: usize = 0;
     let mut to: usize = 0;
     loop {
-        let line = line_at(message, answer, at);
+        let line = line_at(cut, place, at);
         match line {
             Line::None => {
                 return to;
@@ -118,75 +114,30 @@ fn put_lines(message: &[u8], answer: Answer, out: &mut [u8]) -> usize
     }
 }
 
-// The record at a place has a line where it reads whole. None follows an end record or the one that was refused.
-fn line_at(message: &[u8], answer: Answer, at: usize) -> Line
-    ensures { λ r. ⌜ LineAt (lastOf (toldAnswer answer)) (now (message .entry)) at r ⌝ }
+// The record at a place has a line where it reads whole. None follows the one at which the walk stops.
+fn line_at(cut: &[u8], place: usize, at: usize) -> Line
+    ensures { λ r. ⌜ LineAt (now (cut .entry)) place at r ⌝ }
 {
-    let parsed = NtsRecord::parse(message, at);
-    match parsed {
-        Parsed::Read(x) => {
-            let row = row_at(message, at);
-            if ends(row.kind, answer, at) {
-                return Line::Last(row);
-            }
-            Line::More(row, x.next.at)
-        }
-        Parsed::Refused(_) => Line::None,
-    }
-}
-
-fn row_at(message: &[u8], at: usize) -> Row
-    requires { ⌜ at + 4 ≤ length (now message) ⌝ }
-    ensures { λ r. ⌜ r ≡ rowIn (now (message .entry)) at ⌝ }
-{
-    let word = wire::number_at(message, at);
-    Row {
-        kind: kind_of(word),
-        critical: is_critical(word),
-        size: wire::number_at(message, at + 2),
-    }
-}
-
-fn kind_of(word: u16) -> u16
-    ensures { λ r. ⌜ r ≡ kindOf word ⌝ }
-{
-    word & NtsRecord::KIND_BITS
-}
-
-fn is_critical(word: u16) -> bool
-    ensures { λ r. ⌜ r ≡ criticalOf word ⌝ }
-{
-    word & NtsRecord::CRITICAL_BIT != 0
-}
-
-// Whether the listing ends with the record at this place.
-fn ends(kind: u16, answer: Answer, at: usize) -> bool
-    ensures { λ r. ⌜ r ≡ (eqb kind 0 || isLast (lastOf (toldAnswer answer)) at) ⌝ }
-{
-    if kind == NtsRecord::END_OF_MESSAGE {
-        return true;
-    }
-    is_last(answer, at)
-}
-
-// Whether the answer is a refusal of the record at this place.
-fn is_last(answer: Answer, at: usize) -> bool
-    ensures { λ r. ⌜ r ≡ isLast (lastOf (toldAnswer answer)) at ⌝ }
-{
+    let answer = record::look(cut, at);
     match answer {
-        Answer::Accepted(_) => false,
-        Answer::Refused(refusal) => at == refusal.place,
+        Looked::Whole(x) => {
+            if at == place {
+                return Line::Last(x);
+            }
+            Line::More(x, at + NtsRecord::HEADER + x.size as usize)
+        }
+        Looked::Refused(_) => Line::None,
     }
 }
 
-fn line_length(at: usize, row: Row) -> usize
+fn line_length(at: usize, row: Glance) -> usize
     ensures { λ r. ⌜ r ≡ length (rowLine at row) ⌝ }
 {
     let mut line = [0u8; LINE];
     make_line(at, row, &mut line)
 }
 
-fn put_line(at: usize, row: Row, out: &mut [u8]) -> usize
+fn put_line(at: usize, row: Glance, out: &mut [u8]) -> usize
     ensures { λ r. ⌜ Tried (length (rowLine at row)) (rowLine at row) (now (out .entry)) r (now (out .exit)) ⌝ }
 {
     let mut line = [0u8; LINE];
@@ -195,7 +146,7 @@ fn put_line(at: usize, row: Row, out: &mut [u8]) -> usize
 }
 
 // A record's line at the front of an output that has room for the longest.
-fn make_line(at: usize, row: Row, out: &mut [u8]) -> usize
+fn make_line(at: usize, row: Glance, out: &mut [u8]) -> usize
     requires { ⌜ 65 ≤ length (now out) ⌝ }
     ensures { λ r. ⌜ PutMost 65 (rowLine at row) (now (out .entry)) r (now (out .exit)) ⌝ }
 {
@@ -204,7 +155,7 @@ fn make_line(at: usize, row: Row, out: &mut [u8]) -> usize
 }
 
 // What stands behind a line's place: kind, bit and size, and the newline.
-fn put_row(row: Row, out: &mut [u8]) -> usize
+fn put_row(row: Glance, out: &mut [u8]) -> usize
     requires { ⌜ 45 ≤ length (now out) ⌝ }
     ensures { λ r. ⌜ PutMost 45 (rowText row) (now (out .entry)) r (now (out .exit)) ⌝ }
 {

@@ -1,6 +1,5 @@
 pub mod Cells
 pub mod Filling
 pub mod Walked
-pub mod Slots
 pub mod Entries
 pub mod Same

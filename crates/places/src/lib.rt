@@ -1,29 +1,27 @@
-// Where the bodies of a message's records lie: a slot for a kind of which one record may stand, and for one that may stand often the lent
-// table of 16-bit cells, two a record, start and length.
+// Where the bodies of a message's records of one kind lie: the lent table of 16-bit cells, two a record, start and length.
+use nts::NtsError;
+use nts::Refusal;
 use record::NtsRecord;
-use record::Part;
 ghost use mathlib.Core.Path.{_≡_};
-ghost use mathlib.Core.List.{List};
-ghost use Prim.Native.Nat.{ℕ, _+_, _*_, _/_, _<_, _≤_};
-ghost use lib.ListN.{length, take};
-ghost use Rattle.places.specs.Places.{entryIn, filled};
-ghost use Rattle.places.specs.Cells.{PutPair};
+ghost use Prim.Native.Nat.{_*_, _<_, _≤_};
+ghost use lib.ListN.{length, drop};
+ghost use Rattle.walk.specs.Judge.{some};
+ghost use Rattle.places.specs.Places.{entryIn, placesFrom, Holds, Fills};
 
-// Whether a record was there, and its body.
-pub struct Slot {
-    pub there: bool,
-    pub body: Part,
+// The most that a cell counts.
+const CELL: usize = 65535;
+
+// All of them were stored, so many; the first so many, and more follow; or none.
+pub enum Filled {
+    Stored(usize),
+    First(usize),
+    Refused(Refusal),
 }
 
-// The bytes of a message that a limit leaves.
-pub fn cut_at(message: &[u8], limit: u16) -> &[u8]
-    ensures { λ r. ⌜ now r ≡ take limit (now (message .entry)) ⌝ }
-{
-    let n = limit as usize;
-    if n < message.len() {
-        return &message[0..n];
-    }
-    &message[0..]
+// How many were stored, and the place behind the last record that was passed.
+struct Held {
+    count: usize,
+    at: usize,
 }
 
 // The body at an index of a table that was filled from the message; empty where the index or the cells point outside.
@@ -38,42 +36,86 @@ pub fn entry<'a>(message: &'a [u8], table: &[u16], index: usize) -> &'a [u8]
     wire::part(message, 0, 0)
 }
 
-// Puts the bodies of one kind's records, up to the first end record, into the table as far as it has room. It reads headers alone: a reader
-// that accepted the message has judged the bodies.
-pub fn fill(message: &[u8], limit: u16, kind: u16, table: &mut [u16])
-    ensures { λ _. ⌜ now (table .exit) ≡ filled kind (take limit (now (message .entry))) (now (table .entry)) ⌝ }
+// Puts the bodies of the first `count` records of one kind into the table, and tells how many it found, and whether more follow: of the bytes
+// that a walk covered, whole records one after the other, among which the walk counted so many. 7, at the place behind those bytes, where the
+// table has no room for so many, or the bytes are more than a cell can count; then no cell changes. It reads headers alone: the walk has judged
+// the bodies.
+pub fn fill(covered: &[u8], kind: u16, count: usize, table: &mut [u16]) -> Filled
+    ensures { λ r. ⌜ Fills kind count (now (covered .entry)) (now (table .entry)) r (now (table .exit)) ⌝ }
 {
-    let cut = cut_at(message, limit);
+    if CELL < covered.len() {
+        return full(covered.len());
+    }
+    if table.len() / 2 < count {
+        return full(covered.len());
+    }
+    let held = store(covered, kind, count, table);
+    if follows(covered, held.at, kind) {
+        return Filled::First(held.count);
+    }
+    Filled::Stored(held.count)
+}
+
+// The table does not hold them: refused at a place.
+fn full(place: usize) -> Filled
+    ensures { λ r. ⌜ r ≡ Filled.Refused (record { error = NtsError.TableFull; place = place }) ⌝ }
+{
+    Filled::Refused(Refusal {
+        error: NtsError::TableFull,
+        place,
+    })
+}
+
+// Puts where their bodies lie into the table, which has room for so many, and tells how many they are, and where it stopped.
+fn store(covered: &[u8], kind: u16, count: usize, table: &mut [u16]) -> Held
+    requires { ⌜ (length (now covered) < 65536) × (2 * count ≤ length (now table)) ⌝ }
+    ensures { λ r. ⌜ Holds kind count (now (covered .entry)) (now (table .entry)) (r .count) (r .at) (now (table .exit)) ⌝ }
+{
     let mut at: usize = 0;
-    let mut to: usize = 0;
+    let mut n: usize = 0;
     loop {
+        if n == count {
+            return Held { count: n, at };
+        }
         let start = at + NtsRecord::HEADER;
-        if cut.len() < start {
-            return;
+        if covered.len() < start {
+            return Held { count: n, at };
         }
-        let found = wire::number_at(cut, at) & NtsRecord::KIND_BITS;
-        let size = wire::number_at(cut, at + 2);
-        if found == NtsRecord::END_OF_MESSAGE {
-            return;
+        let size = wire::number_at(covered, at + 2);
+        let next = start + size as usize;
+        if covered.len() < next {
+            return Held { count: n, at };
         }
-        to = put_pair(table, to, found == kind, start as u16, size);
-        at = start + size as usize;
+        if wire::number_at(covered, at) & NtsRecord::KIND_BITS == kind {
+            let to = 2 * n;
+            let behind = to + 1;
+            table[to] = start as u16;
+            table[behind] = size;
+            n += 1;
+        }
+        at = next;
     }
 }
 
-// Two cells where they are wanted, and the place after them; nothing where there is no room for both.
-fn put_pair(table: &mut [u16], to: usize, wanted: bool, start: u16, size: u16) -> usize
-    requires { ⌜ to ≤ length (now table) ⌝ }
-    ensures { λ r. ⌜ PutPair wanted start size (now (table .entry)) to r (now (table .exit)) ⌝ }
+// Whether a record of the kind is there from a place on, at which a record begins.
+fn follows(covered: &[u8], at: usize, kind: u16) -> bool
+    requires { ⌜ (at ≤ length (now covered)) × (length (now covered) < 65536) ⌝ }
+    ensures { λ r. ⌜ r ≡ some (placesFrom kind at 0 (drop at (now (covered .entry)))) ⌝ }
 {
-    if wanted {
-        if table.len() - to < 2 {
-            return to;
+    let mut here: usize = at;
+    loop {
+        let body = here + NtsRecord::HEADER;
+        if covered.len() < body {
+            return false;
         }
-        let next = to + 1;
-        table[to] = start;
-        table[next] = size;
-        return to + 2;
+        let size = wire::number_at(covered, here + 2);
+        let behind = body + size as usize;
+        if covered.len() < behind {
+            return false;
+        }
+        if wire::number_at(covered, here) & NtsRecord::KIND_BITS == kind {
+            return true;
+        }
+        here = behind;
     }
-    to
 }

@@ -7,6 +7,7 @@ use Rattle.cells.proofs.Lent.{gives-same}
 use Rattle.reading.proofs.ntske_read_request.Reads as ntske-read-request
 use Rattle.reading.proofs.ntske_read_reply.Reads as ntske-read-reply
 use Rattle.reading.proofs.ntske_read_record.Reads as ntske-read-record
+use Rattle.reading.proofs.ntske_is_utf8.Reads as ntske-is-utf8
 
 pub ntske-read-request-same : (κs : _) (a : _) (r r′ : _) (e e′ : _) → ntske-read-request.Learnt κs a r e → ntske-read-request.Learnt κs a r′ e′ → (r ≡ r′) × (now (e .1 .1 .0) ≡ now (e′ .1 .1 .0)) × (now (e .1 .1 .1 .0) ≡ now (e′ .1 .1 .1 .0))
 ntske-read-request-same κs a r r′ e e′ p q = let g = gives-same (p .gives) (q .gives) in (g .0, p .left ∙ sym (q .left), g .1)
@@ -16,3 +17,6 @@ ntske-read-reply-same κs a r r′ e e′ p q = let g = gives-same (p .gives) (q
 
 pub ntske-read-record-same : (κs : _) (a : _) (r r′ : _) (e e′ : _) → ntske-read-record.Learnt κs a r e → ntske-read-record.Learnt κs a r′ e′ → (r ≡ r′) × (now (e .1 .1 .0) ≡ now (e′ .1 .1 .0))
 ntske-read-record-same κs a r r′ e e′ p q = gives-same p q
+
+pub ntske-is-utf8-same : (κs : _) (a : _) (r r′ : _) (e e′ : _) → ntske-is-utf8.Learnt κs a r e → ntske-is-utf8.Learnt κs a r′ e′ → r ≡ r′
+ntske-is-utf8-same κs a r r′ e e′ p q = p ∙ sym q

@@ -1,4 +1,4 @@
-// The calls that read a request, a reply and one record, for a host in C or Rust. Each answers ten cells.
+// The calls that read a request, a reply and one record, for a host in C or Rust, each of which answers ten cells; and the test for UTF-8.
 use cells::NO_ROOM;
 use nts::Code;
 use nts::NtsError;
@@ -15,6 +15,7 @@ ghost use mathlib.Core.List.{[], _∷_};
 ghost use Prim.Native.Nat.{_≤_};
 ghost use lib.ListN.{length};
 ghost use Rattle.wire.specs.Over.{over};
+ghost use Rattle.utf8.specs.Utf8.{wellFormed};
 ghost use Rattle.nts.specs.Refusal.{besideOf, toldRefusal};
 ghost use Rattle.record.specs.Record.{readAt};
 ghost use Rattle.record.specs.Told.{toldParsed, kindOfRecord, valueOfRecord};
@@ -92,6 +93,14 @@ pub extern "C" fn ntske_read_record(message: &[u8], place: usize, answer: &mut [
 }
 
 // ---- answers as cells, where there is room
+
+// 1 where the bytes are UTF-8, and 0 where they are not.
+#[no_mangle]
+pub extern "C" fn ntske_is_utf8(bytes: &[u8]) -> u32
+    ensures { λ r. ⌜ r ≡ flag (wellFormed (now (bytes .entry))) ⌝ }
+{
+    if utf8::is_utf8(bytes) { 1 } else { 0 }
+}
 
 fn put_request(read: request::Answer, answer: &mut [usize]) -> u32
     requires { ⌜ 10 ≤ length (now answer) ⌝ }

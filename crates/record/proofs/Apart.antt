@@ -8,14 +8,16 @@ use lib.Dec.{eqb}
 use Rattle.nts.proofs.Apart.{apart, refusal-apart}
 use Rattle.nts.specs.Refusal.{toldRefusal}
 use Rattle.layout.specs.declared.Part.{Part}
-use Rattle.record.specs.Record.{Value, skipped, number, part, halves, unknown, Seen, read}
+use Rattle.record.specs.Record.{Value, skipped, number, part, halves, unknown, Seen, read, whole, broken}
 use Rattle.record.specs.Entry as entry
-use Rattle.record.specs.Told.{toldRecord, toldParsed, toldProtocol, toldAlgorithm, toldPair}
+use Rattle.record.specs.Told.{toldRecord, toldParsed, toldLooked, toldProtocol, toldAlgorithm, toldPair}
 use Rattle.record.specs.declared.Cursor.{Cursor}
 use Rattle.record.specs.declared.NtsRecord.{NtsRecord}
 use Rattle.record.specs.declared.NtsRecord.the-variants.{EndOfMessage, NextProtocol, Error, Warning, AeadAlgorithm, NewCookie, Server, Port, KeepAlive, SupportedNextProtocolList, SupportedAlgorithmList, FixedKeyRequest, NtpServerDeny, Authentication, Unknown}
 use Rattle.record.specs.declared.Parsed.{Parsed}
 use Rattle.record.specs.declared.Parsed.the-variants.{Read, Refused}
+use Rattle.record.specs.declared.Looked.{Looked}
+use Rattle.record.specs.declared.Looked.the-variants as looked
 use Rattle.record.specs.declared.ProtocolAt.{ProtocolAt}
 use Rattle.record.specs.declared.ProtocolAt.the-variants as protocol-at
 use Rattle.record.specs.declared.AlgorithmAt.{AlgorithmAt}
@@ -88,6 +90,18 @@ parsed-apart (Refused r) (Read y) e = let z : _≡_ {A = ℕ} 0 1 = cc in absurd
 parsed-apart (Refused r) (Refused s) e =
     let t : toldRefusal r ≡ toldRefusal s = cc in
     ap Refused (refusal-apart r s t)
+
+pub looked-apart : (x y : Looked) → toldLooked x ≡ toldLooked y → x ≡ y
+looked-apart (looked.Whole x) (looked.Whole y) e =
+    let k : x .kind ≡ y .kind = cc in
+    let b : x .critical ≡ y .critical = cc in
+    let n : x .size ≡ y .size = cc in
+    ap looked.Whole (λ j. record { kind = k j; critical = b j; size = n j })
+looked-apart (looked.Whole x) (looked.Refused s) e = let z : _≡_ {A = ℕ} 0 1 = cc in absurd (omega arith)
+looked-apart (looked.Refused r) (looked.Whole y) e = let z : _≡_ {A = ℕ} 0 1 = cc in absurd (omega arith)
+looked-apart (looked.Refused r) (looked.Refused s) e =
+    let t : toldRefusal r ≡ toldRefusal s = cc in
+    ap looked.Refused (refusal-apart r s t)
 
 -- ---- an entry of a list
 

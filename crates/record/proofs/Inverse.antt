@@ -10,7 +10,7 @@ use lib.Dec.{eqb}
 use Rattle.nts.specs.Refusal.{Refused, nothing}
 use Rattle.layout.specs.declared.Shape.{Shape}
 use Rattle.layout.specs.declared.Shape.the-variants.{Skipped, Numbers, Number, Bytes, Name, Pairs, Halves, Unknown}
-use Rattle.record.specs.Record.{kind, critical, size, there, shapeOf, fault, Value, skipped, number, part, halves, unknown, valueOf, Seen, seenOf, Told, read, refused, readFrom, endOf}
+use Rattle.record.specs.Record.{kind, critical, size, there, shapeOf, fault, Value, skipped, number, part, halves, unknown, valueOf, Seen, seenOf, Told, read, refused, readFrom, whole, broken, lookFrom}
 
 -- a record that was read at the front of t, which begins at `at`
 pub record WasRead (at : ℕ) (t : List ℕ) (x : Seen) (next : ℕ) : Type 0 where
@@ -34,16 +34,28 @@ refused-was at t r e = go (eqb (fault t) 0) refl e
     go true z q = let o : _≡_ {A = ℕ} 0 1 = cc in absurd (omega arith)
     go false z q = (eqb-false (fault t) 0 z, cc)
 
--- a record of kind k that ends somewhere was read
-pub ended-was : (k at next : ℕ) (t : List ℕ) → next ≡ endOf k (readFrom at t) → (next ≡ 0 → ⊥) → read (seenOf k (critical t) (at + 4) (size t) (there t)) next ≡ readFrom at t
-unfolding readFrom endOf seenOf
-ended-was k at next t e n = go (eqb (fault t) 0) (eqb (kind t) k) refl e
+-- the same of a look
+pub record WasWhole (t : List ℕ) (k : ℕ) (bit : Bool) (n : ℕ) : Type 0 where
+  pub faultless : fault t ≡ 0
+  pub is : k ≡ kind t
+  pub marked : bit ≡ critical t
+  pub sized : n ≡ size t
+
+pub whole-was : (at : ℕ) (t : List ℕ) (k : ℕ) (bit : Bool) (n : ℕ) → whole k bit n ≡ lookFrom at t → WasWhole t k bit n
+unfolding lookFrom
+whole-was at t k bit n e = go (eqb (fault t) 0) refl e
   where
-    go : (b c : Bool) → eqb (kind t) k ≡ c → next ≡ endOf k (cond b (read (seenOf (kind t) (critical t) (at + 4) (size t) (there t)) (at + 4 + size t)) (refused (record { number = fault t; beside = nothing; place = at })))
-        → read (seenOf k (critical t) (at + 4) (size t) (there t)) next ≡ cond b (read (seenOf (kind t) (critical t) (at + 4) (size t) (there t)) (at + 4 + size t)) (refused (record { number = fault t; beside = nothing; place = at }))
-    go true true z q = rw (q ∙ ap (λ (c : Bool). cond c (at + 4 + size t) 0) z, ← eqb-true (kind t) k z)
-    go true false z q = absurd (n (q ∙ ap (λ (c : Bool). cond c (at + 4 + size t) 0) z))
-    go false c z q = absurd (n q)
+    go : (b : Bool) → eqb (fault t) 0 ≡ b → whole k bit n ≡ cond b (whole (kind t) (critical t) (size t)) (broken (record { number = fault t; beside = nothing; place = at })) → WasWhole t k bit n
+    go true z q = record { faultless = eqb-true (fault t) 0 z; is = cc; marked = cc; sized = cc }
+    go false z q = let o : _≡_ {A = ℕ} 0 1 = cc in absurd (omega arith)
+
+pub broken-was : (at : ℕ) (t : List ℕ) (r : Refused) → broken r ≡ lookFrom at t → (fault t ≡ 0 → ⊥) × (r ≡ record { number = fault t; beside = nothing; place = at })
+unfolding lookFrom
+broken-was at t r e = go (eqb (fault t) 0) refl e
+  where
+    go : (b : Bool) → eqb (fault t) 0 ≡ b → broken r ≡ cond b (whole (kind t) (critical t) (size t)) (broken (record { number = fault t; beside = nothing; place = at })) → (fault t ≡ 0 → ⊥) × (r ≡ record { number = fault t; beside = nothing; place = at })
+    go true z q = let o : _≡_ {A = ℕ} 0 1 = cc in absurd (omega arith)
+    go false z q = (eqb-false (fault t) 0 z, cc)
 
 -- ---- a record's kind and value, from what is seen
 

@@ -1,4 +1,4 @@
--- What `readAt` is, from what the reader found on the way.
+-- What `readAt` and `lookAt` are, from what the reader found on the way.
 -- Assumes nothing.
 use mathlib.Core.Path.{_≡_, refl, sym, ap, _∙_}
 use mathlib.Core.Bool.{Bool, true, false, cond}
@@ -7,13 +7,15 @@ use Prim.Native.Nat.{ℕ, _+_, _-_, _<_, _≤_}
 use native.Mathlib.Nat.{add-sub-cancel-left}
 use native.Mathlib.Omega.{arith}
 use borrow.Author.Tests.{lt-ltb, le-ltb, eq-eqb, ne-eqb}
-use lib.ListN.{length, take, drop, length-drop}
+use lib.ListN.{length, take, drop, length-take, length-drop}
 use lib.Dec.{eqb}
 use lib.Seq.{take-all}
 use Rattle.wire.specs.Bytes.{numberAt}
 use Rattle.nts.specs.Refusal.{nothing}
 use Rattle.layout.specs.declared.Shape.{Shape}
-use Rattle.record.specs.Record.{kindOf, criticalOf, kind, critical, size, there, shapeOf, faultOf, fault, Seen, seenOf, read, refused, readFrom, readAt, endOf}
+use Rattle.record.specs.Record.{kindOf, criticalOf, kind, critical, size, there, shapeOf, faultOf, fault, Seen, seenOf, read, refused, readFrom, readAt, whole, broken, lookFrom, lookAt}
+use Rattle.record.proofs.Inverse.{whole-was}
+use Rattle.record.proofs.Whole.{body-fault, there-length}
 
 -- all that follows a header is what is there of a body that is short
 pub there-all : (s : List ℕ) (n : ℕ) → length s - 4 < n → take (length s - 4) (drop 4 s) ≡ take n (drop 4 s)
@@ -36,27 +38,34 @@ pub past-end : (s : List ℕ) (at : ℕ) → length s < at → refused (record {
 unfolding readAt readFrom fault
 past-end s at h = simp (lt-ltb (length (drop at s)) 4 (simp length-drop (omega arith)))
 
--- .. so that no record ends
-pub end-past-end : (k : ℕ) (s : List ℕ) (at : ℕ) → length s < at → 0 ≡ endOf k (readAt s at)
-unfolding endOf
-end-past-end k s at h = ap (endOf k) (past-end s at h)
-
 pub no-header : (at : ℕ) (t : List ℕ) → length t < 4 → refused (record { number = 1; beside = nothing; place = at }) ≡ readFrom at t
 unfolding readFrom fault
 no-header at t h = simp (lt-ltb _ _ h)
 
-pub end-no-header : (k at : ℕ) (t : List ℕ) → length t < 4 → 0 ≡ endOf k (readFrom at t)
-unfolding endOf
-end-no-header k at t h = ap (endOf k) (no-header at t h)
+-- ---- the same of a look
 
--- a record of another kind, whether it reads or not
-pub end-other : (k at : ℕ) (t : List ℕ) → (kindOf (numberAt t 0) ≡ k → ⊥) → 0 ≡ endOf k (readFrom at t)
-unfolding endOf readFrom seenOf kind
-end-other k at t h = go (eqb (fault t) 0)
-  where
-    go : (c : Bool) → 0 ≡ endOf k (cond c (read (seenOf (kind t) (critical t) (at + 4) (size t) (there t)) (at + 4 + size t)) (refused (record { number = fault t; beside = nothing; place = at })))
-    go true = simp (ne-eqb _ _ h)
-    go false = refl
+pub look-rest : (s : List ℕ) (at : ℕ) → lookFrom at (rest s at) ≡ lookAt s at
+unfolding lookAt
+look-rest s at = ap (lookFrom at) (take-all (length s - at) (drop at s) (simp length-drop (omega arith)))
+
+pub look-past-end : (s : List ℕ) (at : ℕ) → length s < at → broken (record { number = 1; beside = nothing; place = at }) ≡ lookAt s at
+unfolding lookAt lookFrom fault
+look-past-end s at h = simp (lt-ltb (length (drop at s)) 4 (simp length-drop (omega arith)))
+
+pub look-no-header : (at : ℕ) (t : List ℕ) → length t < 4 → broken (record { number = 1; beside = nothing; place = at }) ≡ lookFrom at t
+unfolding lookFrom fault
+look-no-header at t h = simp (lt-ltb _ _ h)
+
+-- its body is inside the message
+pub look-inside : (s : List ℕ) (at k : ℕ) (bit : Bool) (n : ℕ) → whole k bit n ≡ lookAt s at → at + 4 + n ≤ length s
+unfolding lookAt there
+look-inside s at k bit n e =
+    let w = whole-was at (drop at s) k bit n e in
+    let l = there-length (drop at s) (w .faultless) in
+    let f = body-fault (drop at s) (w .faultless) in
+    omega (arith, simp (length-take, length-drop) at l, length-drop at s, w .sized, f .0)
+
+-- ---- by what each callee found
 
 module _ (at : ℕ) (t : List ℕ) (w n k : ℕ) (l : Shape) (b : List ℕ) (f : ℕ) (here : 4 ≤ length t) (ew : w ≡ numberAt t 0) (en : n ≡ numberAt t 2)
     (ek : k ≡ kindOf w) (eb : b ≡ take n (drop 4 t)) (el : l ≡ shapeOf k) (ef : f ≡ faultOf l n b) where
@@ -68,10 +77,10 @@ module _ (at : ℕ) (t : List ℕ) (w n k : ℕ) (l : Shape) (b : List ℕ) (f :
   unfolding readFrom fault kind critical size there
   faultless z bit x e r = simp (le-ltb _ _ here, sym ew, sym en, sym ek, sym el, sym eb, sym ef, eq-eqb _ _ z, sym e, sym r)
 
-  pub ended : f ≡ 0 → at + 4 + n ≡ endOf k (readFrom at t)
-  unfolding endOf seenOf
-  ended z = simp (sym (faultless z (criticalOf w) (seenOf k (criticalOf w) (at + 4) n b) refl refl), eq-eqb k k refl)
+  pub look-faulty : (f ≡ 0 → ⊥) → broken (record { number = f; beside = nothing; place = at }) ≡ lookFrom at t
+  unfolding lookFrom fault kind size there
+  look-faulty z = simp (le-ltb _ _ here, sym ew, sym en, sym ek, sym el, sym eb, sym ef, ne-eqb _ _ z)
 
-  pub not-ended : (f ≡ 0 → ⊥) → 0 ≡ endOf k (readFrom at t)
-  unfolding endOf
-  not-ended z = ap (endOf k) (faulty z)
+  pub look-faultless : f ≡ 0 → (bit : Bool) → bit ≡ criticalOf w → whole k bit n ≡ lookFrom at t
+  unfolding lookFrom fault kind critical size there
+  look-faultless z bit e = simp (le-ltb _ _ here, sym ew, sym en, sym ek, sym el, sym eb, sym ef, eq-eqb _ _ z, sym e)

@@ -3,13 +3,13 @@
 use mathlib.Core.Path.{_≡_, sym, _∙_}
 use denote.Ref.{now}
 use Rattle.layout.proofs.Apart.{count-apart, wrote-same}
-use Rattle.record.proofs.Apart.{cursor-apart, parsed-apart, protocol-apart, algorithm-apart, pair-apart}
+use Rattle.record.proofs.Apart.{cursor-apart, parsed-apart, looked-apart, protocol-apart, algorithm-apart, pair-apart}
 use Rattle.record.proofs.NtsRecord.parse.Reads as parse
 use Rattle.record.proofs.NtsRecord.serialize.Reads as serialize
 use Rattle.record.proofs.NtsRecord.length.Reads as length
 use Rattle.record.proofs.Cursor.new.Reads as new
 use Rattle.record.proofs.Cursor.read.Reads as read
-use Rattle.record.proofs.end_of.Reads as end-of
+use Rattle.record.proofs.look.Reads as look
 use Rattle.record.proofs.protocol_at.Reads as protocol-at
 use Rattle.record.proofs.algorithm_at.Reads as algorithm-at
 use Rattle.record.proofs.description_at.Reads as description-at
@@ -23,8 +23,8 @@ Cursor-new-same κs a r r′ e e′ p q = cursor-apart r r′ (p ∙ sym q)
 pub Cursor-read-same : (κs : _) (a : _) (r r′ : _) (e e′ : _) → read.Learnt κs a r e → read.Learnt κs a r′ e′ → r ≡ r′
 Cursor-read-same κs a r r′ e e′ p q = parsed-apart r r′ (p ∙ sym q)
 
-pub end-of-same : (κs : _) (a : _) (r r′ : _) (e e′ : _) → end-of.Learnt κs a r e → end-of.Learnt κs a r′ e′ → r ≡ r′
-end-of-same κs a r r′ e e′ p q = p ∙ sym q
+pub look-same : (κs : _) (a : _) (r r′ : _) (e e′ : _) → look.Learnt κs a r e → look.Learnt κs a r′ e′ → r ≡ r′
+look-same κs a r r′ e e′ p q = looked-apart r r′ (p ∙ sym q)
 
 pub protocol-at-same : (κs : _) (a : _) (r r′ : _) (e e′ : _) → protocol-at.Learnt κs a r e → protocol-at.Learnt κs a r′ e′ → r ≡ r′
 protocol-at-same κs a r r′ e e′ p q = protocol-apart r r′ (p ∙ sym q)

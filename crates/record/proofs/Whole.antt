@@ -71,7 +71,7 @@ body-there Unknown n b h = short-there n (length b) h
 -- ---- a record of which a body is asked
 
 -- what the fault of the record at the list's front says of its body
-body-fault : (s : List ℕ) → fault s ≡ 0 → (4 ≤ length s) × (faultOf (shapeOf (kind s)) (size s) (there s) ≡ 0)
+pub body-fault : (s : List ℕ) → fault s ≡ 0 → (4 ≤ length s) × (faultOf (shapeOf (kind s)) (size s) (there s) ≡ 0)
 unfolding fault
 body-fault s h =
     let p = not-first (ltb (length s) 4) 0 _ h in

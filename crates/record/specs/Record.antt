@@ -138,7 +138,18 @@ readFrom at s =
 unfoldable pub readAt : List ℕ → ℕ → Told
 readAt s at = readFrom at (drop at s)
 
--- of what a reader answers: the place after the record, if it was read and is of kind k; otherwise 0
-unfoldable pub endOf : ℕ → Told → ℕ
-endOf k (read x next) = cond (eqb (x .kind) k) next 0
-endOf k (refused r) = 0
+-- ---- what a walk asks of a record
+
+-- refused as above, or its kind, its bit and its size
+pub data Sight : Type 0 where
+  whole : ℕ → Bool → ℕ → Sight
+  broken : Refused → Sight
+
+unfoldable pub lookFrom : ℕ → List ℕ → Sight
+lookFrom at s =
+    cond (eqb (fault s) 0)
+    (whole (kind s) (critical s) (size s))
+    (broken (record { number = fault s; beside = nothing; place = at }))
+
+unfoldable pub lookAt : List ℕ → ℕ → Sight
+lookAt s at = lookFrom at (drop at s)

@@ -2,12 +2,14 @@
 use Prim.Native.Nat.{ℕ}
 use Rattle.nts.specs.Refusal.{toldRefusal}
 use Rattle.layout.specs.declared.Part.{Part}
-use Rattle.record.specs.Record.{Value, skipped, number, part, halves, unknown, Seen, Told, read, refused}
+use Rattle.record.specs.Record.{Value, skipped, number, part, halves, unknown, Seen, Told, read, refused, Sight, whole, broken}
 use Rattle.record.specs.Entry as entry
 use Rattle.record.specs.declared.NtsRecord.{NtsRecord}
 use Rattle.record.specs.declared.NtsRecord.the-variants.{EndOfMessage, NextProtocol, Error, Warning, AeadAlgorithm, NewCookie, Server, Port, KeepAlive, SupportedNextProtocolList, SupportedAlgorithmList, FixedKeyRequest, NtpServerDeny, Authentication, Unknown}
 use Rattle.record.specs.declared.Parsed.{Parsed}
 use Rattle.record.specs.declared.Parsed.the-variants.{Read, Refused}
+use Rattle.record.specs.declared.Looked.{Looked}
+use Rattle.record.specs.declared.Looked.the-variants as looked
 use Rattle.record.specs.declared.Fault.{Fault}
 use Rattle.record.specs.declared.Fault.the-variants.{None, Short, IllFormed}
 use Rattle.record.specs.declared.NumberAt.{NumberAt}
@@ -63,6 +65,10 @@ toldRecord r = record { kind = kindOfRecord r; value = valueOfRecord r }
 abbrev pub toldParsed : Parsed → Told
 toldParsed (Read x) = read (toldRecord (x .item)) (x .next .at)
 toldParsed (Refused r) = refused (toldRefusal r)
+
+abbrev pub toldLooked : Looked → Sight
+toldLooked (looked.Whole x) = whole (x .kind) (x .critical) (x .size)
+toldLooked (looked.Refused r) = broken (toldRefusal r)
 
 -- 0 for none, and the refusal's number
 abbrev pub toldFault : Fault → ℕ

@@ -17,9 +17,9 @@ ghost use mathlib.Core.Path.{_≡_};
 ghost use Prim.Native.Nat.{_+_, _/_, _<_, _≤_, _^_};
 ghost use lib.ListN.{length, take, drop};
 ghost use Rattle.wire.specs.Bytes.{partAt};
-ghost use Rattle.record.specs.Record.{kindOf, criticalOf, shapeOf, short, uneven, notNumber, notHalves, notUtf8, firstOf, notName, faultOf, seenOf, readAt, endOf};
+ghost use Rattle.record.specs.Record.{kindOf, criticalOf, shapeOf, short, uneven, notNumber, notHalves, notUtf8, firstOf, notName, faultOf, seenOf, readAt, lookAt};
 ghost use Rattle.record.specs.Entry.{numberIn, pairIn};
-ghost use Rattle.record.specs.Told.{toldFault, toldRecord, toldParsed, toldNumber, toldProtocol, toldAlgorithm, toldPair};
+ghost use Rattle.record.specs.Told.{toldFault, toldRecord, toldParsed, toldLooked, toldNumber, toldProtocol, toldAlgorithm, toldPair};
 
 // A record, as the crate's NtsRecord; bodies, names and keys are parts of the message that it was read from.
 pub enum NtsRecord {
@@ -60,6 +60,18 @@ pub struct Reading {
 
 pub enum Parsed {
     Read(Reading),
+    Refused(Refusal),
+}
+
+// What a walk asks of a record that reads: its kind, its critical bit, and its body's size.
+pub struct Glance {
+    pub kind: u16,
+    pub critical: bool,
+    pub size: u16,
+}
+
+pub enum Looked {
+    Whole(Glance),
     Refused(Refusal),
 }
 
@@ -177,29 +189,37 @@ impl Cursor {
     }
 }
 
-// The place after the record at a place, if it is of that kind and reads; otherwise 0. What `parse` says of it, without the record.
-pub fn end_of(kind: u16, message: &[u8], at: usize) -> usize
-    ensures { λ r. ⌜ r ≡ endOf kind (readAt (now (message .entry)) at) ⌝ }
+// The record at a place of a message, as far as a walk asks for it. `parse` refuses as it does, and otherwise hands out the record.
+pub fn look(message: &[u8], at: usize) -> Looked
+    ensures { λ r. ⌜ toldLooked r ≡ lookAt (now (message .entry)) at ⌝ }
 {
     if message.len() < at {
-        return 0;
+        return unseen(NtsError::UnexpectedEof, at);
     }
     let rest = &message[at..];
     if rest.len() < NtsRecord::HEADER {
-        return 0;
+        return unseen(NtsError::UnexpectedEof, at);
     }
-    let found = kind_of(wire::number_at(rest, 0));
-    if found != kind {
-        return 0;
-    }
-    let size = wire::number_at(rest, 2) as usize;
-    let body = there(rest, size);
-    let fault = fault_of(shape_of(kind), size, body);
+    let word = wire::number_at(rest, 0);
+    let size = wire::number_at(rest, 2);
+    let kind = kind_of(word);
+    let body = there(rest, size as usize);
+    let fault = fault_of(shape_of(kind), size as usize, body);
     match fault {
-        Fault::None => at + NtsRecord::HEADER + size,
-        Fault::Short => 0,
-        Fault::IllFormed => 0,
+        Fault::None => Looked::Whole(Glance {
+            kind,
+            critical: is_critical(word),
+            size,
+        }),
+        Fault::Short => unseen(NtsError::UnexpectedEof, at),
+        Fault::IllFormed => unseen(NtsError::InvalidData, at),
     }
+}
+
+fn unseen(error: NtsError, place: usize) -> Looked
+    ensures { λ r. ⌜ r ≡ Looked.Refused (record { error = error; place = place }) ⌝ }
+{
+    Looked::Refused(Refusal { error, place })
 }
 
 fn refused(error: NtsError, place: usize) -> Parsed

@@ -1,60 +1,40 @@
--- A whole reply: the walk, the decision and the table, put together.
+-- A whole reply: what the walk found, the decision and the table, put together.
 -- Assumes nothing.
 use mathlib.Core.Path.{_≡_, refl, sym, ap, _∙_}
 use mathlib.Core.List.{List, [], _∷_}
 use mathlib.Core.Bool.{Bool, true, false, cond}
-use Prim.Native.Nat.{ℕ, _≤_}
+use Prim.Native.Nat.{ℕ, _-_, _<_, _≤_}
 use native.Mathlib.Omega.{arith}
 use borrow.Author.Tests.{ltb-false}
-use lib.ListN.{length, take}
+use lib.ListN.{length, take, drop, length-take}
 use lib.Dec.{ltb, eqb}
 use Rattle.wire.specs.Over.{over}
 use Rattle.wire.proofs.Over.{over-none}
-use Rattle.nts.specs.Refusal.{Refused, toldRefusal}
-use Rattle.nts.specs.declared.Refusal.{Refusal}
-use Rattle.walk.specs.Walk.{Sighting, walk}
+use Rattle.nts.specs.declared.NtsError.{NtsError}
+use Rattle.walk.specs.Walk.{Sighting}
 use Rattle.walk.specs.Judge as judge
-use Rattle.walk.specs.Judge.{Verdict, no, yes, withFirst, ofKind, bodyIn, placed}
+use Rattle.walk.specs.Judge.{Verdict, no, yes, Under, withFirst, ofKind, bodyIn, placed}
 use Rattle.walk.specs.Table.{known}
-use Rattle.walk.specs.Held.{wayRefused, wayOf}
+use Rattle.walk.specs.Rules.{isNoted}
+use Rattle.walk.specs.Found.{toldIn, Walks}
+use Rattle.walk.specs.Code.{Fits}
+use Rattle.walk.specs.declared.Stop.the-variants as stop
+use Rattle.walk.specs.declared.Walked.{Walked}
 use Rattle.walk.proofs.Verdicts.{Held, held-if}
-use Rattle.walk.proofs.Answered.{read-refused, Ended, walk-ended, read-ended, ended-inside}
-use Rattle.places.specs.Places.{cells, roomOf, filled}
-use Rattle.places.proofs.Walked.{walk-filled}
-use Rattle.reply.specs.Reply.{act, once, reader, Form, reply, decide, judging, replyOf, toldBy, toldAnswer, cookiesOf, tableAfter, Reads}
-use Rattle.reply.specs.State.{tally, toldWalked, handedUp, decidedIn, isAccepted}
-use Rattle.reply.specs.declared.Found.{Found}
+use Rattle.walk.proofs.Meets.{place-between}
+use Rattle.walk.proofs.Answered.{walk-place, read-refused, walk-ended, read-ended, ended-fits, told-ended}
+use Rattle.places.specs.Places.{cells, roomOf, Fills}
+use Rattle.places.specs.declared.Filled.{Filled}
+use Rattle.places.proofs.Walked.{table-notes, fill-noted}
+use Rattle.reply.specs.Reply.{act, once, reader, rules, Form, reply, decide, judging, replyOf, toldBy, toldAnswer, cookiesOf, tableAfter, Reads}
+use Rattle.reply.specs.Code.{cookiesIn}
 use Rattle.reply.specs.declared.Answer.{Answer}
-use Rattle.reply.specs.declared.Walked.{Walked}
-use Rattle.reply.specs.declared.Walked.the-variants as walked
-use Rattle.reply.proofs.Decided.{decided-is}
-use Rattle.reply.proofs.Lawful.{reply-goes}
+use Rattle.reply.specs.declared.Answer.the-variants as answer
+use Rattle.reply.proofs.Reader.{table-reader}
+use Rattle.reply.proofs.Decided.{decided-like}
 
-module _ (m : List ℕ) (n room : ℕ) where
-  pub reply-refused : (r : Refused) → wayRefused r ≡ wayOf tally (walk reader [] 0 0 (take n m)) → replyOf m n room ≡ judge.refused r
-  unfolding replyOf
-  reply-refused = read-refused reader tally m (record { limit = n; room = room }) judging
+-- ---- the cookies of an accepted reply are those found, and the table has room for them
 
-  module _ (at : ℕ) (f : Found) (d : Ended reader tally m (record { limit = n; room = room }) at f) where
-    pub reply-ended : replyOf m n room ≡ placed at (decide room (bodyIn m) (λ k. ofKind k (d .state)))
-    unfolding replyOf
-    reply-ended = read-ended reader tally m (record { limit = n; room = room }) at f d judging
-
-    pub reply-told : decidedIn m f at room ≡ toldBy m (replyOf m n room)
-    reply-told =
-        ap (λ (g : Found). decidedIn m g at room) (d .struct)
-        ∙ decided-is m at room (d .state) (ended-inside reader tally m (record { limit = n; room = room }) at f d)
-        ∙ ap (toldBy m) (sym reply-ended)
-
--- ---- the table
-
--- where no reply is accepted, no cell is written
-pub no-cookies : (m : List ℕ) (x : judge.Answer Form) (t : List ℕ) → isAccepted (toldBy m x) ≡ false → t ≡ tableAfter x t
-unfolding tableAfter
-no-cookies m (judge.refused r) t e = sym (over-none t)
-no-cookies m (judge.accepted (reply p a s q k c)) t e = let o : _≡_ {A = ℕ} 0 1 = cc in absurd (omega arith)
-
--- where one is, the table has room for its cookies
 module _ (room : ℕ) (d : List Sighting) where
   abbrev Cookies : Form Sighting → Type 0
   Cookies (reply p a s t k c) = (c ≡ d) × (length d ≤ room)
@@ -80,43 +60,74 @@ cookies-are room val l =
     (λ t. cookies-if room (l 5) (ltb room (length (l 5))) _ _ (λ s. tt) (λ s. (refl, ltb-false room (length (l 5)) s)))))))
 
 cookies-told : (m : List ℕ) (at room : ℕ) (d : List Sighting) (v : Verdict Form Sighting) → H room d v
-    → isAccepted (toldBy m (placed at v)) ≡ true → (cookiesOf (placed at v) ≡ d) × (length d ≤ room)
-cookies-told m at room d (no n b) h e = let o : _≡_ {A = ℕ} 0 1 = cc in absurd (omega arith)
-cookies-told m at room d (yes (reply p a s t k c)) h e = h
+    → (cookiesIn (toldBy m (placed at v)) ≡ 0 → ⊥) → (cookiesOf (placed at v) ≡ d) × (length d ≤ room) × (cookiesIn (toldBy m (placed at v)) ≡ length d)
+cookies-told m at room d (no n b) h e = absurd (e refl)
+cookies-told m at room d (yes (reply p a s t k c)) h e = (h .0, h .1, ap length (h .0))
 
--- the table after it was filled
-pub cookies-stored : (m : List ℕ) (n : ℕ) (t : List ℕ) (at : ℕ) (f : Found) (d : Ended reader tally m (record { limit = n; room = roomOf t }) at f) → isAccepted (decidedIn m f at (roomOf t)) ≡ true
-    → filled 5 (take n m) t ≡ tableAfter (replyOf m n (roomOf t)) t
-unfolding tableAfter act once known
-cookies-stored m n t at f d e =
-    let r = reply-ended m n (roomOf t) at f d in
-    let x : isAccepted (toldBy m (placed at (decide (roomOf t) (bodyIn m) (λ k. ofKind k (d .state))))) ≡ true = ap (λ (q : judge.Answer Form). isAccepted (toldBy m q)) (sym r) ∙ ap isAccepted (sym (reply-told m n (roomOf t) at f d)) ∙ e in
-    let w = cookies-told m at (roomOf t) (ofKind 5 (d .state)) (decide (roomOf t) (bodyIn m) (λ k. ofKind k (d .state))) (cookies-are (roomOf t) (bodyIn m) (λ k. ofKind k (d .state))) x in
-    walk-filled act once reply-goes 5 (λ z. omega arith) refl (λ b. refl) refl (take n m) t at (d .next) (d .state) (d .walked) (w .1)
-    ∙ ap (λ (l : List Sighting). over (cells l) t) (sym (w .0) ∙ ap cookiesOf (sym r))
+-- where there are none, no cell is written
+none-stored : (m t : List ℕ) (x : judge.Answer Form) → cookiesIn (toldBy m x) ≡ 0 → t ≡ tableAfter x t
+unfolding tableAfter
+none-stored m t (judge.refused r) e = sym (over-none t)
+none-stored m t (judge.accepted (reply p a s q k [])) e = sym (over-none t)
+none-stored m t (judge.accepted (reply p a s q k (y ∷ l))) e = absurd (omega arith)
 
--- ---- what the reader answers
+-- ---- what the reader answers, by how the walk stopped
 
--- cut is the message cut at the limit, as the reader takes it
-module _ (m : List ℕ) (n : ℕ) (t cut : List ℕ) (x : Answer) (c : cut ≡ take n m) where
-  pub reads-refused : (r : Refusal) (w : Walked) → w ≡ walked.Refused r → toldWalked w ≡ wayOf tally (walk reader [] 0 0 cut) → x ≡ handedUp w → Reads m n t x t
-  unfolding tableAfter
-  reads-refused r w e v h =
-      let q = reply-refused m n (roomOf t) (toldRefusal r) (ap toldWalked (sym e) ∙ v ∙ ap (λ (s : List ℕ). wayOf tally (walk reader [] 0 0 s)) c) in
-      record {
-        says = ap toldAnswer (h ∙ ap handedUp e) ∙ ap (toldBy m) (sym q);
-        left = sym (over-none t) ∙ ap (λ (a : judge.Answer Form). over (cells (cookiesOf a)) t) (sym q);
-      }
+module _ (m : List ℕ) (n : ℕ) (w : Walked) (c : List ℕ) (h : Walks rules (take n m) w c) where
+  abbrev asked : ℕ → Under
+  asked room = record { limit = n; room = room }
 
-  module _ (at : ℕ) (f : Found) (w : Walked) (e : w ≡ walked.Ended at f) (v : toldWalked w ≡ wayOf tally (walk reader [] 0 0 cut)) (h : toldAnswer x ≡ decidedIn m f at (roomOf t)) where
-    end : Ended reader tally m (record { limit = n; room = roomOf t }) at f
-    end = walk-ended reader tally m (record { limit = n; room = roomOf t }) at f (ap toldWalked (sym e) ∙ v ∙ ap (λ (s : List ℕ). wayOf tally (walk reader [] 0 0 s)) c)
+  -- the place lies inside the message
+  pub place-inside : (w .place ≤ n) × (w .place ≤ length m)
+  place-inside =
+      let p = place-between reader [] 0 0 (take n m) (length (take n m)) (omega arith) (omega arith) in
+      let e = walk-place rules reader table-reader m (asked 0) w c h in
+      (omega (arith, p .1, e, length-take n m), omega (arith, p .1, e, length-take n m))
 
-    told : toldAnswer x ≡ toldBy m (replyOf m n (roomOf t))
-    told = h ∙ reply-told m n (roomOf t) at f end
+  -- .. and so does what a decision reads
+  pub cells-fit : w .stop ≡ stop.End → Fits rules (length m) c
+  cells-fit = ended-fits rules reader table-reader m (asked 0) w c h
 
-    pub reads-other : isAccepted (toldAnswer x) ≡ false → Reads m n t x t
-    reads-other i = record { says = told; left = no-cookies m (replyOf m n (roomOf t)) t (ap isAccepted (sym told) ∙ i) }
+  module _ (t : List ℕ) where
+    abbrev room : ℕ
+    room = roomOf t
 
-    pub reads-accepted : (t′ : List ℕ) → isAccepted (toldAnswer x) ≡ true → t′ ≡ filled 5 (take n m) t → Reads m n t x t′
-    reads-accepted t′ i o = record { says = told; left = o ∙ cookies-stored m n t at f end (ap isAccepted (sym h) ∙ i) }
+    unfilled : (x : Answer) → toldAnswer x ≡ toldBy m (replyOf m n room) → cookiesIn (toldAnswer x) ≡ 0 → Reads m n t x t
+    unfilled x e z = record { says = e; left = none-stored m t (replyOf m n room) (ap cookiesIn (sym e) ∙ z) }
+
+    pub reads-refused : (e : NtsError) (x : Answer) → w .stop ≡ stop.Refused e → x ≡ answer.Refused (record { error = e; place = w .place }) → Reads m n t x t
+    unfolding replyOf
+    reads-refused e x q a =
+        unfilled x (ap toldAnswer a ∙ ap (toldBy m) (sym (read-refused rules reader table-reader m (asked room) w c h judging e q))) (ap (λ (y : Answer). cookiesIn (toldAnswer y)) a)
+
+    module _ (q : w .stop ≡ stop.End) (x : Answer) (e : toldAnswer x ≡ toldBy m (placed (w .place) (decide room (bodyIn m) (toldIn c)))) where
+      says : toldAnswer x ≡ toldBy m (replyOf m n room)
+      unfolding replyOf known isNoted
+      says =
+          e
+          ∙ told-ended rules reader table-reader m (asked room) w c h judging (toldBy m)
+          (λ l l′ like. decided-like m (w .place) room l l′ (like 1 (omega arith) refl refl) (like 4 (omega arith) refl refl) (like 5 (omega arith) refl refl)
+          (like 6 (omega arith) refl refl) (like 7 (omega arith) refl refl) (like 8 (omega arith) refl refl)) q
+
+      -- count is how many cookies the answer tells
+      module _ (count : ℕ) (told : count ≡ cookiesIn (toldAnswer x)) where
+        pub reads-other : count ≡ 0 → Reads m n t x t
+        reads-other z = unfilled x says (sym told ∙ z)
+
+        -- they are put into the table from the bytes that the walk covered
+        pub reads-accepted : (f : Filled) (t′ : List ℕ) → (count ≡ 0 → ⊥) → n < 65536 → Fills 5 count (take (w .place - 0) (drop 0 m)) t f t′ → Reads m n t x t′
+        unfolding act once known tableAfter replyOf
+        reads-accepted f t′ z l o =
+            let end = walk-ended rules reader table-reader m (asked room) w c h q in
+            let noted : ℕ → List Sighting = λ k. ofKind k (end .state) in
+            let read-is : replyOf m n room ≡ placed (w .place) (decide room (bodyIn m) noted) = read-ended rules reader table-reader m (asked room) w c h end judging in
+            let counted : count ≡ cookiesIn (toldBy m (placed (w .place) (decide room (bodyIn m) noted))) = told ∙ ap cookiesIn (says ∙ ap (toldBy m) read-is) in
+            let d = cookies-told m (w .place) room (noted 5) (decide room (bodyIn m) noted) (cookies-are room (bodyIn m) noted) (λ u. z (counted ∙ u)) in
+            let always = table-notes act 5 (λ u. omega arith) refl (λ b. refl) in
+            let all : count ≡ length (noted 5) = counted ∙ d .2 in
+            record {
+              says = says;
+              left =
+                  fill-noted reader 5 always refl m n (w .place) (end .next) (end .state) (end .walked) t count all (omega (arith, all, d .1)) l (w .place) refl f t′ o
+                  ∙ ap (λ (y : List Sighting). over (cells y) t) (sym (d .0) ∙ ap cookiesOf (sym read-is));
+            }

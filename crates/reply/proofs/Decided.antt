@@ -1,85 +1,109 @@
--- The decision over the struct is the definition's, over the records noted.
+-- What is told of the decision asks of each kind no more than how many there are and the first, so it is the same over the records noted as over
+-- what the cells tell; and over the cells it is the code's tests.
 -- Assumes nothing.
 use mathlib.Core.Path.{_≡_, refl, sym, ap, _∙_}
 use mathlib.Core.List.{List, [], _∷_}
 use mathlib.Core.Bool.{Bool, true, false, cond}
-use Prim.Native.Nat.{ℕ, _+_, _≤_}
-use lib.ListN.{length}
+use Prim.Native.Nat.{ℕ, _+_, _<_, _≤_}
+use native.Mathlib.Omega.{arith}
+use lib.ListN.{length, getD}
 use lib.Dec.{ltb, eqb}
 use Rattle.wire.specs.Bytes.{numberAt}
 use Rattle.nts.specs.Refusal.{nothing}
 use Rattle.walk.specs.Walk.{Sighting}
-use Rattle.walk.specs.Judge.{Verdict, no, yes, some, ofKind, withFirst, bodyIn, partOf, placed}
-use Rattle.walk.proofs.Noted.{Inside, kind-inside}
-use Rattle.places.specs.Slots.{slotOf}
+use Rattle.walk.specs.Judge.{Verdict, withFirst, bodyIn, partOf, placed}
+use Rattle.walk.specs.Table.{known}
+use Rattle.walk.specs.Rules.{isNoted}
+use Rattle.walk.specs.declared.Seen.{Seen}
+use Rattle.walk.specs.Found.{entryIn, firstIn, toldIn}
+use Rattle.walk.specs.Code.{Fits}
+use Rattle.walk.proofs.Like.{Like, like-first, like-if, like-some, told-first, told-length}
 use Rattle.places.proofs.Entries.{body-length, part-body}
-use Rattle.reply.specs.Reply.{Sent, mapSent, firstSent, Form, reply, decide, Told, replyIs, toldBy}
-use Rattle.reply.specs.State.{tally, refusedAt, numberIn, serverIn, portIn, acceptedIn, cookiesIn, algorithmIn, decidedIn}
+use Rattle.reply.specs.Reply.{sent, notSent, mapSent, firstSent, Form, rules, decide, Told, refusedWith, toldBy}
+use Rattle.reply.specs.Code.{numberIn, sentIn, acceptedIn}
+
+-- what is made of the first, if one was sent
+sent-first : {B : Type 0} (f : Sighting → B) (l : List Sighting) → mapSent f (firstSent l) ≡ withFirst l notSent (λ x. sent (f x))
+sent-first f [] = refl
+sent-first f (x ∷ l) = refl
+
+abbrev numberOf : List ℕ → Sighting → ℕ
+numberOf m x = numberAt (bodyIn m x) 0
 
 module _ (m : List ℕ) (at room : ℕ) where
   abbrev told : Verdict Form Sighting → Told
   told v = toldBy m (placed at v)
 
-  -- a test on both sides
-  if-told : (b : Bool) (x y : Told) (v w : Verdict Form Sighting) → x ≡ told v → y ≡ told w → cond b x y ≡ told (cond b v w)
-  if-told true x y v w p q = p
-  if-told false x y v w p q = q
+  -- ---- over what was found, and what is like it
 
-  number-is : (x : Sighting) → x .start + x .len ≤ length m → numberIn m (partOf x) ≡ numberAt (bodyIn m x) 0
-  unfolding numberIn
-  number-is x h = ap (λ (b : List ℕ). numberAt b 0) (part-body m x h)
-
-  server-is : (l : List Sighting) → serverIn (slotOf l) ≡ mapSent partOf (firstSent l)
-  unfolding serverIn
-  server-is [] = refl
-  server-is (x ∷ l) = refl
-
-  port-is : (l : List Sighting) → Inside (length m) l → portIn m (slotOf l) ≡ mapSent (λ (x : Sighting). numberAt (bodyIn m x) 0) (firstSent l)
-  unfolding portIn
-  port-is [] i = refl
-  port-is (x ∷ l) i = ap Sent.sent (number-is x (i .0))
-
-  pub decided-is : (st : List Sighting) → Inside (length m) st → decidedIn m (tally st) at room ≡ told (decide room (bodyIn m) (λ k. ofKind k st))
-  unfolding decidedIn algorithmIn cookiesIn acceptedIn decide
-  decided-is st h = by-protocol (ofKind 1 st) (kind-inside (length m) 1 st h)
+  pub decided-like : (l l′ : ℕ → List Sighting) → Like (l 1) (l′ 1) → Like (l 4) (l′ 4) → Like (l 5) (l′ 5) → Like (l 6) (l′ 6) → Like (l 7) (l′ 7) → Like (l 8) (l′ 8)
+      → told (decide room (bodyIn m) l) ≡ told (decide room (bodyIn m) l′)
+  unfolding decide
+  decided-like l l′ l1 l4 l5 l6 l7 l8 =
+      like-first told (l 1) (l′ 1) l1 _ _ _ _ refl
+      (λ p. like-if told (eqb (length (bodyIn m p)) 0) _ refl _ _ _ _ refl
+      (like-first told (l 4) (l′ 4) l4 _ _ _ _ refl
+      (λ a. like-if told (eqb (length (bodyIn m a)) 0) _ refl _ _ _ _ refl
+      (like-if told (eqb (length (l 5)) 0) (eqb (length (l′ 5)) 0) (ap (λ (n : ℕ). eqb n 0) (l5 .long)) _ _ _ _ refl
+      (like-if told (ltb room (length (l 5))) (ltb room (length (l′ 5))) (ap (ltb room) (l5 .long)) _ _ _ _ refl
+      (rw (sends partOf (l 6) (l′ 6) l6, sends (numberOf m) (l 7) (l′ 7) l7, like-some (l 8) (l′ 8) l8, l5 .long)))))))
     where
-      by-algorithm : (p : Sighting) → p .start + p .len ≤ length m → (l4 : List Sighting) → Inside (length m) l4
-          → cond (slotOf l4 .there)
-          (cond (eqb (slotOf l4 .body .len) 0) (refusedAt 14 at)
-          (cond (eqb (length (ofKind 5 st)) 0) (refusedAt 15 at)
-          (cond (ltb room (length (ofKind 5 st))) (refusedAt 7 at)
-          (replyIs (numberIn m (partOf p)) (numberIn m (slotOf l4 .body)) (serverIn (slotOf (ofKind 6 st))) (portIn m (slotOf (ofKind 7 st))) (some (ofKind 8 st)) (length (ofKind 5 st))))))
-          (refusedAt 4 at)
-          ≡ told (withFirst l4 (no 4 nothing)
-          (λ a. cond (eqb (length (bodyIn m a)) 0) (no 14 nothing)
-          (cond (eqb (length (ofKind 5 st)) 0) (no 15 nothing)
-          (cond (ltb room (length (ofKind 5 st))) (no 7 nothing)
-          (yes (reply p a (firstSent (ofKind 6 st)) (firstSent (ofKind 7 st)) (some (ofKind 8 st)) (ofKind 5 st)))))))
-      by-algorithm p hp [] i = refl
-      by-algorithm p hp (a ∷ l) i =
-          rw (body-length m a (i .0), number-is p hp, number-is a (i .0), server-is (ofKind 6 st), port-is (ofKind 7 st) (kind-inside (length m) 7 st h))
-          (if-told (eqb (a .len) 0) _ _ _ _ refl
-          (if-told (eqb (length (ofKind 5 st)) 0) _ _ _ _ refl
-          (if-told (ltb room (length (ofKind 5 st))) _ _ _ _ refl refl)))
+      sends : {B : Type 0} (f : Sighting → B) (a b : List Sighting) → Like a b → mapSent f (firstSent a) ≡ mapSent f (firstSent b)
+      sends f a b s = sent-first f a ∙ s .first notSent (λ x. sent (f x)) ∙ sym (sent-first f b)
 
-      by-protocol : (l1 : List Sighting) → Inside (length m) l1
-          → cond (slotOf l1 .there)
-          (cond (eqb (slotOf l1 .body .len) 0) (refusedAt 13 at)
-          (cond (slotOf (ofKind 4 st) .there)
-          (cond (eqb (slotOf (ofKind 4 st) .body .len) 0) (refusedAt 14 at)
-          (cond (eqb (length (ofKind 5 st)) 0) (refusedAt 15 at)
-          (cond (ltb room (length (ofKind 5 st))) (refusedAt 7 at)
-          (replyIs (numberIn m (slotOf l1 .body)) (numberIn m (slotOf (ofKind 4 st) .body)) (serverIn (slotOf (ofKind 6 st))) (portIn m (slotOf (ofKind 7 st))) (some (ofKind 8 st)) (length (ofKind 5 st))))))
-          (refusedAt 4 at)))
-          (refusedAt 4 at)
-          ≡ told (withFirst l1 (no 4 nothing)
-          (λ p. cond (eqb (length (bodyIn m p)) 0) (no 13 nothing)
-          (withFirst (ofKind 4 st) (no 4 nothing)
-          (λ a. cond (eqb (length (bodyIn m a)) 0) (no 14 nothing)
-          (cond (eqb (length (ofKind 5 st)) 0) (no 15 nothing)
-          (cond (ltb room (length (ofKind 5 st))) (no 7 nothing)
-          (yes (reply p a (firstSent (ofKind 6 st)) (firstSent (ofKind 7 st)) (some (ofKind 8 st)) (ofKind 5 st)))))))))
-      by-protocol [] i = refl
-      by-protocol (p ∷ l) i =
-          rw (body-length m p (i .0))
-          (if-told (eqb (p .len) 0) _ _ _ _ refl (by-algorithm p (i .0) (ofKind 4 st) (kind-inside (length m) 4 st h)))
+  -- ---- over what the cells tell
+
+  abbrev refusedAt : ℕ → Told
+  refusedAt n = refusedWith (record { number = n; beside = nothing; place = at })
+
+  module _ (c : List ℕ) (fits : Fits rules (length m) c) where
+    inside : (k : ℕ) → k < 15 → known k ≡ true → isNoted (getD rules k 0) ≡ true → firstIn c k .start + firstIn c k .len ≤ length m
+    unfolding Fits
+    inside k l kn nt = fits k l kn nt
+
+    if-told : (b : Bool) (v w : Verdict Form Sighting) (x y : Told) → told v ≡ x → told w ≡ y → told (cond b v w) ≡ cond b x y
+    if-told true v w x y p q = p
+    if-told false v w x y p q = q
+
+    first-told : (k : ℕ) (v : Verdict Form Sighting) (f : Sighting → Verdict Form Sighting) (x y : Told) → told v ≡ x → told (f (firstIn c k)) ≡ y
+        → told (withFirst (toldIn c k) v f) ≡ cond (eqb (entryIn c k .count) 0) x y
+    first-told k v f x y p q = ap told (told-first c k v f) ∙ if-told (eqb (entryIn c k .count) 0) v (f (firstIn c k)) x y p q
+
+    -- a body's test is its length's
+    body-told : (k : ℕ) → firstIn c k .start + firstIn c k .len ≤ length m → (v w : Verdict Form Sighting) (x y : Told) → told v ≡ x → told w ≡ y
+        → told (cond (eqb (length (bodyIn m (firstIn c k))) 0) v w) ≡ cond (eqb (entryIn c k .len) 0) x y
+    body-told k i v w x y p q = rw (body-length m (firstIn c k) i) (if-told (eqb (entryIn c k .len) 0) v w x y p q)
+
+    number-is : (k : ℕ) → firstIn c k .start + firstIn c k .len ≤ length m → numberOf m (firstIn c k) ≡ numberIn m (entryIn c k)
+    unfolding numberIn
+    number-is k i = ap (λ (b : List ℕ). numberAt b 0) (sym (part-body m (firstIn c k) i))
+
+    sent-is : {B : Type 0} (f : Sighting → B) (k : ℕ) (b : B) → f (firstIn c k) ≡ b → mapSent f (firstSent (toldIn c k)) ≡ sentIn (entryIn c k) b
+    unfolding sentIn
+    sent-is f k b e = sent-first f (toldIn c k) ∙ told-first c k notSent (λ x. sent (f x)) ∙ ap (λ (v : _). cond (eqb (entryIn c k .count) 0) notSent (sent v)) e
+
+    -- the code's tests, over what was found of kinds 1 and 4, and the count of cookies
+    pub decided-is : (p a : Seen) (n : ℕ) → p ≡ entryIn c 1 → a ≡ entryIn c 4 → n ≡ entryIn c 5 .count
+        → cond (eqb (p .count) 0) (refusedAt 4)
+        (cond (eqb (p .len) 0) (refusedAt 13)
+        (cond (eqb (a .count) 0) (refusedAt 4)
+        (cond (eqb (a .len) 0) (refusedAt 14)
+        (cond (eqb n 0) (refusedAt 15)
+        (cond (ltb room n) (refusedAt 7)
+        (acceptedIn m c p a n))))))
+        ≡ told (decide room (bodyIn m) (toldIn c))
+    unfolding decide acceptedIn known isNoted
+    decided-is p a n ep ea en =
+        let i1 = inside 1 (omega arith) refl refl in
+        let i4 = inside 4 (omega arith) refl refl in
+        let i7 = inside 7 (omega arith) refl refl in
+        rw (ep, ea, en)
+        (sym
+        (first-told 1 _ _ _ _ refl
+        (body-told 1 i1 _ _ _ _ refl
+        (first-told 4 _ _ _ _ refl
+        (body-told 4 i4 _ _ _ _ refl
+        (rw (told-length c 5)
+        (if-told (eqb (entryIn c 5 .count) 0) _ _ _ _ refl
+        (if-told (ltb room (entryIn c 5 .count)) _ _ _ _ refl
+        (rw (told-length c 5, number-is 1 i1, number-is 4 i4, sent-is partOf 6 _ refl, sent-is (numberOf m) 7 _ (number-is 7 i7)))))))))))

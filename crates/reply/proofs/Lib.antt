@@ -1,4 +1,4 @@
-pub mod Meeting
+pub mod Reader
 pub mod Decided
 pub mod Answering
 pub mod Apart

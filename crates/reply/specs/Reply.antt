@@ -13,6 +13,7 @@ use Rattle.walk.specs.Walk.{Act, notes, refuses, Reader, Sighting}
 use Rattle.walk.specs.Judge as judge
 use Rattle.walk.specs.Judge.{Verdict, no, yes, Judge, some, withFirst, bodyIn, partOf, readBy}
 use Rattle.walk.specs.Table.{tableReader}
+use Rattle.walk.specs.Rules as rule
 use Rattle.places.specs.Places.{cells, roomOf}
 use Rattle.reply.specs.declared.KeyExchangeResponse.{KeyExchangeResponse}
 use Rattle.reply.specs.declared.Server.{Server}
@@ -40,6 +41,26 @@ once k = eqb k 1 || eqb k 4 || eqb k 6 || eqb k 7
 
 abbrev pub reader : Reader
 reader = tableReader act once
+
+-- the same as the table of a walk, by kind
+abbrev pub rules : List ℕ
+rules =
+    rule.ending  -- 0 end
+    ∷ rule.single  -- 1 protocols
+    ∷ rule.told  -- 2 error
+    ∷ rule.told  -- 3 warning
+    ∷ rule.single  -- 4 algorithms
+    ∷ rule.noted  -- 5 cookie
+    ∷ rule.once  -- 6 server
+    ∷ rule.once  -- 7 port
+    ∷ rule.noted  -- 8 keep-alive
+    ∷ rule.refused  -- 9 supported protocols
+    ∷ rule.refused  -- 10 supported algorithms
+    ∷ rule.refused  -- 11, which is unknown and not asked
+    ∷ rule.refused  -- 12 keys
+    ∷ rule.refused  -- 13 denied
+    ∷ rule.refused  -- 14 authentication
+    ∷ []
 
 -- ---- after the end
 

@@ -2,140 +2,132 @@
 -- Assumes nothing.
 use mathlib.Core.Path.{_≡_, refl, sym, ap, _∙_}
 use mathlib.Core.List.{List, [], _∷_}
-use mathlib.Core.Bool.{Bool, true, false, cond, _&&_, _||_}
-use Prim.Native.Nat.{ℕ, _≤_}
+use Prim.Native.Nat.{ℕ, _-_, _<_, _≤_}
 use native.Mathlib.Omega.{arith}
-use borrow.Author.Tests.{ltb-false}
-use lib.ListN.{length, take}
-use lib.Dec.{ltb, eqb}
+use lib.ListN.{length, take, drop, length-take}
 use Rattle.wire.specs.Over.{over}
 use Rattle.wire.proofs.Over.{over-none}
-use Rattle.nts.specs.Refusal.{Refused, toldRefusal}
-use Rattle.nts.specs.declared.Refusal.{Refusal}
-use Rattle.nts.specs.Algorithm.{Described, known, unknown}
-use Rattle.walk.specs.Walk.{Sighting, walk}
+use Rattle.nts.specs.declared.NtsError.{NtsError}
+use Rattle.walk.specs.Walk.{Sighting, Outcome, stopped, ended, walk}
 use Rattle.walk.specs.Judge as judge
-use Rattle.walk.specs.Judge.{Verdict, no, yes, some, withFirst, ofKind, bodyIn, placed}
-use Rattle.walk.specs.Table as table
-use Rattle.walk.specs.Held.{wayRefused, wayOf}
-use Rattle.walk.proofs.Verdicts.{Held, held-if}
-use Rattle.walk.proofs.Answered.{read-refused, Ended, walk-ended, read-ended, ended-inside}
-use Rattle.places.specs.Places.{cells, roomOf, filled}
-use Rattle.places.proofs.Walked.{walk-filled}
-use Rattle.request.specs.Request.{reader, act, once, Form, keyExchange, fixedKey, support, fixedBy, keyed, decide, judging, request, toldBy, toldAnswer, namesOf, tableAfter, Reads}
-use Rattle.request.specs.State.{tally, toldWalked, handedUp, decidedIn, isExchange}
-use Rattle.request.specs.declared.Found.{Found}
+use Rattle.walk.specs.Judge.{Under, Verdict, no, yes, ofKind, bodyIn, placed, finish, readBy}
+use Rattle.walk.specs.Table.{known}
+use Rattle.walk.specs.Found.{toldIn, placeOf, Walks}
+use Rattle.walk.specs.Code.{Fits}
+use Rattle.walk.specs.declared.Stop.the-variants as stop
+use Rattle.walk.specs.declared.Walked.{Walked}
+use Rattle.walk.proofs.Meets.{place-between}
+use Rattle.walk.proofs.Noted.{walk-inside, kind-inside}
+use Rattle.walk.proofs.Verdicts.{Held}
+use Rattle.walk.proofs.Answered.{walk-place, read-refused, ended-fits, told-ended}
+use Rattle.places.specs.Places.{cells, roomOf, Fills}
+use Rattle.places.specs.declared.Filled.{Filled}
+use Rattle.places.proofs.Walked.{table-notes, fill-noted}
+use Rattle.request.specs.Request.{rules, act, once, reader, Form, keyExchange, fixedKey, support, decide, judging, request, toldBy, toldAnswer, namesOf, tableAfter, Judges, Reads}
+use Rattle.request.specs.Code.{deniedIn}
+use Rattle.request.specs.declared.Judged.{Judged}
 use Rattle.request.specs.declared.Answer.{Answer}
-use Rattle.request.specs.declared.Walked.{Walked}
-use Rattle.request.specs.declared.Walked.the-variants as walked
-use Rattle.request.proofs.Decided.{decided-is}
-use Rattle.request.proofs.Lawful.{request-goes}
+use Rattle.request.specs.declared.Answer.the-variants as answer
+use Rattle.request.proofs.Reader.{table-reader}
+use Rattle.request.proofs.Decided.{decided-like}
+use Rattle.request.proofs.Order.{decide-held}
 
-module _ (m : List ℕ) (n room : ℕ) where
-  pub request-refused : (r : Refused) → wayRefused r ≡ wayOf tally (walk reader [] 0 0 (take n m)) → request m n room ≡ judge.refused r
+module _ (m : List ℕ) (n room : ℕ) (w : Walked) (c : List ℕ) (h : Walks rules (take n m) w c) where
+  abbrev u : Under
+  u = record { limit = n; room = room }
+
+  pub judged-refused : (e : NtsError) → w .stop ≡ stop.Refused e → (x : Answer) → x ≡ answer.Refused (record { error = e; place = w .place }) → Judges m n room (record { answer = x; place = w .place })
   unfolding request
-  request-refused = read-refused reader tally m (record { limit = n; room = room }) judging
+  judged-refused e q x a = record {
+    says = ap toldAnswer a ∙ ap (toldBy m) (sym (read-refused rules reader table-reader m u w c h judging e q));
+    stopped = walk-place rules reader table-reader m u w c h;
+  }
 
-  module _ (at : ℕ) (f : Found) (d : Ended reader tally m (record { limit = n; room = room }) at f) where
-    pub request-ended : request m n room ≡ placed at (decide room (bodyIn m) (λ k. ofKind k (d .state)))
-    unfolding request
-    request-ended = read-ended reader tally m (record { limit = n; room = room }) at f d judging
+  pub judged-fits : w .stop ≡ stop.End → Fits rules (length m) c
+  judged-fits = ended-fits rules reader table-reader m u w c h
 
-    pub request-told : decidedIn m f at room ≡ toldBy m (request m n room)
-    request-told =
-        ap (λ (g : Found). decidedIn m g at room) (d .struct)
-        ∙ decided-is m at (d .state) room (ended-inside reader tally m (record { limit = n; room = room }) at f d)
-        ∙ ap (toldBy m) (sym request-ended)
+  pub judged-ended : w .stop ≡ stop.End → (x : Answer) → toldAnswer x ≡ toldBy m (placed (w .place) (decide room (bodyIn m) (toldIn c))) → Judges m n room (record { answer = x; place = w .place })
+  unfolding request
+  judged-ended q x a = record {
+    says = a ∙ told-ended rules reader table-reader m u w c h judging (toldBy m) (decided-like m (w .place) room) q;
+    stopped = walk-place rules reader table-reader m u w c h;
+  }
 
 -- ---- the table
 
--- where no key-exchange request is accepted, no cell is written
-pub no-names : (m : List ℕ) (x : judge.Answer Form) (t : List ℕ) → isExchange (toldBy m x) ≡ false → t ≡ tableAfter x t
+-- an answer tells how many names go into it
+denied-are : (m : List ℕ) (x : judge.Answer Form) → deniedIn (toldBy m x) ≡ length (namesOf x)
+denied-are m (judge.refused r) = refl
+denied-are m (judge.accepted (keyExchange p a d)) = refl
+denied-are m (judge.accepted (fixedKey u x a p k)) = refl
+denied-are m (judge.accepted (support u p a k)) = refl
+
+-- where no name is denied, no cell is written
+pub no-names : (m : List ℕ) (x : judge.Answer Form) (t : List ℕ) → deniedIn (toldBy m x) ≡ 0 → t ≡ tableAfter x t
 unfolding tableAfter
 no-names m (judge.refused r) t e = sym (over-none t)
-no-names m (judge.accepted (keyExchange p a d)) t e = let o : _≡_ {A = ℕ} 0 1 = cc in absurd (omega arith)
+no-names m (judge.accepted (keyExchange p a [])) t e = sym (over-none t)
+no-names m (judge.accepted (keyExchange p a (x ∷ d))) t e = absurd (omega arith)
 no-names m (judge.accepted (fixedKey u x a p k)) t e = sym (over-none t)
 no-names m (judge.accepted (support u p a k)) t e = sym (over-none t)
 
--- where one is, its names are the denied ones, and the table has room for them
-module _ (room : ℕ) (d : List Sighting) where
-  abbrev Names : Form Sighting → Type 0
-  Names (keyExchange p a l) = (l ≡ d) × (length d ≤ room)
-  Names (fixedKey u x a p k) = Unit {0}
-  Names (support u p a k) = Unit {0}
+-- where some are, the walk ended, they are the denied names noted, and the table has room for them
+pub record Names (m : List ℕ) (n room : ℕ) : Type 0 where
+  pub place : ℕ
+  pub next : ℕ
+  pub state : List Sighting
+  pub walked : walk reader [] 0 0 (take n m) ≡ ended place next state
+  pub named : namesOf (request m n room) ≡ ofKind 13 state
+  pub few : length (ofKind 13 state) ≤ room
 
-  names-if : (t : Bool) (v w : Verdict Form Sighting) → (t ≡ true → Held judging Names v) → (t ≡ false → Held judging Names w)
-      → Held judging Names (cond t v w)
-  names-if = held-if judging Names
+abbrev Denied : ℕ → List Sighting → Form Sighting → Type 0
+Denied room l (keyExchange p a d) = (d ≡ l) × (length l ≤ room)
+Denied room l (fixedKey u x a p k) = Unit {0}
+Denied room l (support u p a k) = Unit {0}
 
-  names-first : (l : List Sighting) (v : Verdict Form Sighting) (f : Sighting → Verdict Form Sighting) → Held judging Names v
-      → ((x : Sighting) → Held judging Names (f x)) → Held judging Names (withFirst l v f)
-  names-first [] v f p q = p
-  names-first (x ∷ l) v f p q = q x
+pub names-are : (m : List ℕ) (n room : ℕ) → (deniedIn (toldBy m (request m n room)) ≡ 0 → ⊥) → Names m n room
+unfolding request readBy finish
+names-are m n room h = go (walk reader [] 0 0 (take n m)) refl h
+  where
+    some-denied : (at : ℕ) (l : List Sighting) (v : Verdict Form Sighting) → Held judging (Denied room l) v → (deniedIn (toldBy m (placed at v)) ≡ 0 → ⊥)
+        → (namesOf (placed at v) ≡ l) × (length l ≤ room)
+    some-denied at l (no c b) d q = absurd (q refl)
+    some-denied at l (yes (keyExchange p a e)) d q = d
+    some-denied at l (yes (fixedKey u x a p k)) d q = absurd (q refl)
+    some-denied at l (yes (support u p a k)) d q = absurd (q refl)
 
-  names-keyed : (k : Described) (n half : ℕ) (u x a p : Sighting) (b : Bool) → Held judging Names (keyed k n half (fixedKey u x a p b))
-  unfolding keyed
-  names-keyed unknown n half u x a p b = tt
-  names-keyed (known i size) n half u x a p b = names-if (eqb half size) _ _ (λ t. tt) (λ t. tt)
+    go : (o : Outcome) → walk reader [] 0 0 (take n m) ≡ o → (deniedIn (toldBy m (finish judging (record { limit = n; room = room }) m o)) ≡ 0 → ⊥) → Names m n room
+    go (stopped r) e q = absurd (q refl)
+    go (ended at next st) e q =
+        let i = walk-inside reader [] 0 0 (take n m) (length m) at next st (simp length-take (omega arith)) tt e in
+        let d = decide-held (length m) room (λ k. ofKind k st) (λ k. kind-inside (length m) k st i) (Denied room (ofKind 13 st)) (λ u j p a k. tt) (λ u x a p j k. tt) (λ p a j r. (refl, r)) (bodyIn m) in
+        let y = some-denied at (ofKind 13 st) (decide room (bodyIn m) (λ k. ofKind k st)) d q in
+        record { place = at; next = next; state = st; walked = e; named = rw e (y .0); few = y .1 }
 
-  names-fixed : (val : Sighting → List ℕ) (u x a p : Sighting) (b : Bool) → Held judging Names (fixedBy val u x a p b)
-  unfolding fixedBy
-  names-fixed val u x a p b = names-if (eqb (length (val p)) 2 && eqb (length (val a)) 2) _ _ (λ t. names-keyed _ _ _ u x a p b) (λ t. tt)
+-- ---- what the reader answers, and the table it leaves
 
-names-are : (room : ℕ) (val : Sighting → List ℕ) (l : ℕ → List Sighting) → Held judging (Names room (l 13)) (decide room val l)
-unfolding decide
-names-are room val l =
-    names-if room (l 13) (some (l 9) || some (l 10)) _ _
-    (λ t. names-first room (l 13) (l 14) _ _ tt (λ u. names-if room (l 13) (some (l 12) || some (l 1) || some (l 4)) _ _ (λ s. tt) (λ s. tt)))
-    (λ t. names-first room (l 13) (l 12) _ _
-    (names-first room (l 13) (l 1) _ _ tt
-    (λ p. names-first room (l 13) (l 4) _ _ tt
-    (λ a. names-if room (l 13) (ltb room (length (l 13))) _ _ (λ s. tt) (λ s. (refl, ltb-false room (length (l 13)) s)))))
-    (λ x. names-first room (l 13) (l 14) _ _ tt
-    (λ u. names-first room (l 13) (l 1) _ _ tt
-    (λ p. names-first room (l 13) (l 4) _ _ tt
-    (λ a. names-fixed room (l 13) val u x a p (some (l 8)))))))
+module _ (m : List ℕ) (n : ℕ) (t : List ℕ) (x : Judged) (j : Judges m n (roomOf t) x) where
+  -- the walk stops inside the message
+  pub place-inside : x .place ≤ length m
+  place-inside = let b = place-between reader [] 0 0 (take n m) (length m) (omega arith) (simp length-take (omega arith)) in omega (arith, b .1, j .stopped)
 
-names-told : (m : List ℕ) (at room : ℕ) (d : List Sighting) (v : Verdict Form Sighting) → Held judging (Names room d) v
-    → isExchange (toldBy m (placed at v)) ≡ true → (namesOf (placed at v) ≡ d) × (length d ≤ room)
-names-told m at room d (no n b) h e = let o : _≡_ {A = ℕ} 0 1 = cc in absurd (omega arith)
-names-told m at room d (yes (keyExchange p a l)) h e = h
-names-told m at room d (yes (fixedKey u x a p k)) h e = let o : _≡_ {A = ℕ} 0 1 = cc in absurd (omega arith)
-names-told m at room d (yes (support u p a k)) h e = let o : _≡_ {A = ℕ} 0 1 = cc in absurd (omega arith)
+  -- count is how many names the answer denies
+  module _ (count : ℕ) (told : count ≡ deniedIn (toldAnswer (x .answer))) where
+    counted : count ≡ deniedIn (toldBy m (request m n (roomOf t)))
+    counted = told ∙ ap deniedIn (j .says)
 
--- the table after it was filled
-pub names-stored : (m : List ℕ) (n : ℕ) (t : List ℕ) (at : ℕ) (f : Found) (d : Ended reader tally m (record { limit = n; room = roomOf t }) at f) → isExchange (decidedIn m f at (roomOf t)) ≡ true
-    → filled 13 (take n m) t ≡ tableAfter (request m n (roomOf t)) t
-unfolding tableAfter act once table.known
-names-stored m n t at f d e =
-    let r = request-ended m n (roomOf t) at f d in
-    let x : isExchange (toldBy m (placed at (decide (roomOf t) (bodyIn m) (λ k. ofKind k (d .state))))) ≡ true = ap (λ (q : judge.Answer Form). isExchange (toldBy m q)) (sym r) ∙ ap isExchange (sym (request-told m n (roomOf t) at f d)) ∙ e in
-    let w = names-told m at (roomOf t) (ofKind 13 (d .state)) (decide (roomOf t) (bodyIn m) (λ k. ofKind k (d .state))) (names-are (roomOf t) (bodyIn m) (λ k. ofKind k (d .state))) x in
-    walk-filled act once request-goes 13 (λ z. omega arith) refl (λ b. refl) refl (take n m) t at (d .next) (d .state) (d .walked) (w .1)
-    ∙ ap (λ (l : List Sighting). over (cells l) t) (sym (w .0) ∙ ap namesOf (sym r))
+    pub reads-none : count ≡ 0 → Reads m n t (x .answer) t
+    reads-none e = record { says = j .says; left = no-names m (request m n (roomOf t)) t (sym counted ∙ e) }
 
--- ---- what the reader answers
-
--- cut is the message cut at the limit, as the reader takes it
-module _ (m : List ℕ) (n : ℕ) (t cut : List ℕ) (x : Answer) (c : cut ≡ take n m) where
-  pub reads-refused : (r : Refusal) (w : Walked) → w ≡ walked.Refused r → toldWalked w ≡ wayOf tally (walk reader [] 0 0 cut) → x ≡ handedUp w → Reads m n t x t
-  unfolding tableAfter
-  reads-refused r w e v h =
-      let q = request-refused m n (roomOf t) (toldRefusal r) (ap toldWalked (sym e) ∙ v ∙ ap (λ (s : List ℕ). wayOf tally (walk reader [] 0 0 s)) c) in
-      record {
-        says = ap toldAnswer (h ∙ ap handedUp e) ∙ ap (toldBy m) (sym q);
-        left = sym (over-none t) ∙ ap (λ (a : judge.Answer Form). over (cells (namesOf a)) t) (sym q);
-      }
-
-  module _ (at : ℕ) (f : Found) (w : Walked) (e : w ≡ walked.Ended at f) (v : toldWalked w ≡ wayOf tally (walk reader [] 0 0 cut)) (h : toldAnswer x ≡ decidedIn m f at (roomOf t)) where
-    end : Ended reader tally m (record { limit = n; room = roomOf t }) at f
-    end = walk-ended reader tally m (record { limit = n; room = roomOf t }) at f (ap toldWalked (sym e) ∙ v ∙ ap (λ (s : List ℕ). wayOf tally (walk reader [] 0 0 s)) c)
-
-    told : toldAnswer x ≡ toldBy m (request m n (roomOf t))
-    told = h ∙ request-told m n (roomOf t) at f end
-
-    pub reads-other : isExchange (toldAnswer x) ≡ false → Reads m n t x t
-    reads-other i = record { says = told; left = no-names m (request m n (roomOf t)) t (ap isExchange (sym told) ∙ i) }
-
-    pub reads-exchange : (t′ : List ℕ) → isExchange (toldAnswer x) ≡ true → t′ ≡ filled 13 (take n m) t → Reads m n t x t′
-    reads-exchange t′ i o = record { says = told; left = o ∙ names-stored m n t at f end (ap isExchange (sym h) ∙ i) }
+    pub reads-names : n < 65536 → (count ≡ 0 → ⊥) → (r : Filled) (t′ : List ℕ) → Fills 13 count (take (x .place - 0) (drop 0 m)) t r t′ → Reads m n t (x .answer) t′
+    unfolding tableAfter act once known
+    reads-names l h r t′ f =
+        let d = names-are m n (roomOf t) (λ e. h (counted ∙ e)) in
+        let all : count ≡ length (ofKind 13 (d .state)) = counted ∙ denied-are m (request m n (roomOf t)) ∙ ap length (d .named) in
+        let always = table-notes act 13 (λ z. omega arith) refl (λ b. refl) in
+        record {
+          says = j .says;
+          left =
+              fill-noted reader 13 always refl m n (d .place) (d .next) (d .state) (d .walked) t count all (omega (arith, all, d .few)) l (x .place) (j .stopped ∙ ap placeOf (d .walked)) r t′ f
+              ∙ ap (λ (y : List Sighting). over (cells y) t) (sym (d .named));
+        }

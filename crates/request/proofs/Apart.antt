@@ -1,11 +1,10 @@
 -- What is told of an answer tells any two answers apart: it can be turned back into the answer.
 -- Assumes nothing.
-use mathlib.Core.Path.{_≡_, refl, sym, ap, _∙_}
+use mathlib.Core.Path.{_≡_, refl, sym, ap}
 use Prim.Native.Nat.{ℕ}
 use native.Mathlib.Omega.{arith}
 use Rattle.nts.proofs.Apart.{apart, refusal-apart}
 use Rattle.nts.specs.Refusal.{toldRefusal}
-use Rattle.layout.specs.declared.Part.{Part}
 use Rattle.request.specs.Request.{Told, keyExchangeIs, fixedKeyIs, supportIs, refusedWith, toldRequest, toldAnswer}
 use Rattle.request.specs.declared.Request.{Request}
 use Rattle.request.specs.declared.Request.the-variants.{KeyExchange, FixedKey, Support}

@@ -1,5 +1,4 @@
-pub mod Deciding
-pub mod Meeting
+pub mod Reader
 pub mod Decided
 pub mod Answering
 pub mod Apart

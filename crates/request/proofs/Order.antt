@@ -2,12 +2,13 @@
 -- unknown kind and its bit clear, show the same bodies; with the bit set it is refusal 3 at that record. And each part of an accepted request
 -- lies inside the message.
 -- Assumes nothing.
-use mathlib.Core.Path.{_≡_, refl}
+use mathlib.Core.Path.{_≡_}
 use mathlib.Core.List.{List, [], _∷_, _++_, List·Permᴰ}
 use mathlib.Core.Bool.{Bool, true, false, cond, _&&_, _||_}
 use Prim.Native.Nat.{ℕ, _+_, _≤_}
 use lib.ListN.{length}
 use lib.Dec.{ltb, eqb}
+use borrow.Author.Tests.{ltb-false}
 use Rattle.nts.specs.Refusal.{nothing}
 use Rattle.nts.specs.Algorithm.{Described, unknown}
 use Rattle.nts.specs.Algorithm as algorithm
@@ -59,6 +60,45 @@ module _ (n room : ℕ) where
   unfolding request
   inserted-critical = every.inserted-critical act once request-goes judging request-lawful asked
 
+-- ---- what holds of every verdict that accepts, over records whose bodies lie inside N bytes
+
+module _ (N room : ℕ) (l : ℕ → List Sighting) (i : (k : ℕ) → Inside N (l k)) (P : Form Sighting → Type 0)
+    (at-support : (u : Sighting) → Inside N (u ∷ []) → (p a k : Bool) → P (support u p a k))
+    (at-keys : (u x a p : Sighting) → Inside N (u ∷ x ∷ a ∷ p ∷ []) → (k : Bool) → P (fixedKey u x a p k))
+    (at-exchange : (p a : Sighting) → Inside N (p ∷ a ∷ l 13) → length (l 13) ≤ room → P (keyExchange p a (l 13))) where
+  abbrev Held : Verdict Form Sighting → Type 0
+  Held v = verdicts.Held judging P v
+
+  held-if : (t : Bool) (v w : Verdict Form Sighting) → Held v → Held w → Held (cond t v w)
+  held-if t v w p q = verdicts.held-if judging P t v w (λ e. p) (λ e. q)
+
+  held-first : (k : ℕ) (v : Verdict Form Sighting) (f : Sighting → Verdict Form Sighting) → Held v
+      → ((x : Sighting) → x .start + x .len ≤ N → Held (f x)) → Held (withFirst (l k) v f)
+  held-first k v f = verdicts.held-first judging P N (l k) v f (i k)
+
+  held-keyed : (d : Described) (n half : ℕ) (q : Form Sighting) → P q → Held (keyed d n half q)
+  unfolding keyed
+  held-keyed unknown n half q h = tt
+  held-keyed (algorithm.known m size) n half q h = held-if (eqb half size) (yes q) (no 6 nothing) h tt
+
+  held-fixed : (val : Sighting → List ℕ) (u x a p : Sighting) (k : Bool) → P (fixedKey u x a p k) → Held (fixedBy val u x a p k)
+  unfolding fixedBy
+  held-fixed val u x a p k h = held-if (eqb (length (val p)) 2 && eqb (length (val a)) 2) _ _ (held-keyed _ _ _ (fixedKey u x a p k) h) tt
+
+  pub decide-held : (val : Sighting → List ℕ) → verdicts.Held judging P (decide room val l)
+  unfolding decide
+  decide-held val =
+      held-if (some (l 9) || some (l 10)) _ _
+      (held-first 14 _ _ tt (λ u hu. held-if (some (l 12) || some (l 1) || some (l 4)) _ _ tt (at-support u (hu, tt) _ _ _)))
+      (held-first 12 _ _
+      (held-first 1 _ _ tt
+      (λ p hp. held-first 4 _ _ tt
+      (λ a ha. verdicts.held-if judging P (ltb room (length (l 13))) _ _ (λ e. tt) (λ e. at-exchange p a (hp, (ha, i 13)) (ltb-false room (length (l 13)) e)))))
+      (λ x hx. held-first 14 _ _ tt
+      (λ u hu. held-first 1 _ _ tt
+      (λ p hp. held-first 4 _ _ tt
+      (λ a ha. held-fixed val u x a p (some (l 8)) (at-keys u x a p (hu, (hx, (ha, (hp, tt)))) _))))))
+
 -- ---- where the parts of an accepted request lie
 
 abbrev pub InsideForm : ℕ → Form Sighting → Type 0
@@ -66,40 +106,8 @@ InsideForm N (keyExchange p a d) = Inside N (p ∷ a ∷ d)
 InsideForm N (fixedKey u x a p k) = Inside N (u ∷ x ∷ a ∷ p ∷ [])
 InsideForm N (support u p a k) = Inside N (u ∷ [])
 
-module _ (N : ℕ) where
-  abbrev Held : Verdict Form Sighting → Type 0
-  Held v = verdicts.Held judging (InsideForm N) v
-
-  held-if : (t : Bool) (v w : Verdict Form Sighting) → Held v → Held w → Held (cond t v w)
-  held-if t v w p q = verdicts.held-if judging (InsideForm N) t v w (λ e. p) (λ e. q)
-
-  held-first : (l : List Sighting) (v : Verdict Form Sighting) (f : Sighting → Verdict Form Sighting) → Inside N l → Held v
-      → ((x : Sighting) → x .start + x .len ≤ N → Held (f x)) → Held (withFirst l v f)
-  held-first = verdicts.held-first judging (InsideForm N) N
-
-  held-keyed : (d : Described) (n half : ℕ) (q : Form Sighting) → InsideForm N q → Held (keyed d n half q)
-  unfolding keyed
-  held-keyed unknown n half q i = tt
-  held-keyed (algorithm.known m size) n half q i = held-if (eqb half size) (yes q) (no 6 nothing) i tt
-
-  held-fixed : (val : Sighting → List ℕ) (u x a p : Sighting) (k : Bool) → Inside N (u ∷ x ∷ a ∷ p ∷ []) → Held (fixedBy val u x a p k)
-  unfolding fixedBy
-  held-fixed val u x a p k i = held-if (eqb (length (val p)) 2 && eqb (length (val a)) 2) _ _ (held-keyed _ _ _ (fixedKey u x a p k) i) tt
-
-  held-decide : (room : ℕ) (val : Sighting → List ℕ) (l : ℕ → List Sighting) → ((k : ℕ) → Inside N (l k)) → Held (decide room val l)
-  unfolding decide
-  held-decide room val l i =
-      held-if (some (l 9) || some (l 10)) _ _
-      (held-first (l 14) _ _ (i 14) tt (λ u hu. held-if (some (l 12) || some (l 1) || some (l 4)) _ _ tt (hu, tt)))
-      (held-first (l 12) _ _ (i 12)
-      (held-first (l 1) _ _ (i 1) tt (λ p hp. held-first (l 4) _ _ (i 4) tt (λ a ha. held-if (ltb room (length (l 13))) _ _ tt (hp, (ha, i 13)))))
-      (λ x hx. held-first (l 14) _ _ (i 14) tt
-      (λ u hu. held-first (l 1) _ _ (i 1) tt
-      (λ p hp. held-first (l 4) _ _ (i 4) tt
-      (λ a ha. held-fixed val u x a p (some (l 8)) (hu, (hx, (ha, (hp, tt)))))))))
-
 pub accepted-inside : (m : List ℕ) (n room : ℕ) (q : Form Sighting) → request m n room ≡ accepted q → InsideForm (length m) q
 unfolding request
 accepted-inside m n room q =
     accepted-held judging (InsideForm (length m)) reader m (record { limit = n; room = room }) q
-    (λ st i. held-decide (length m) room (bodyIn m) (λ k. ofKind k st) (λ k. kind-inside (length m) k st i))
+    (λ st i. decide-held (length m) room (λ k. ofKind k st) (λ k. kind-inside (length m) k st i) (InsideForm (length m)) (λ u h p a k. h) (λ u x a p h k. h) (λ p a h r. h) (bodyIn m))

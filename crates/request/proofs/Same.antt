@@ -4,7 +4,14 @@
 use mathlib.Core.Path.{_≡_, sym, _∙_}
 use denote.Ref.{now}
 use Rattle.request.proofs.Apart.{answer-apart}
+use Rattle.request.proofs.Request.judge.Reads as judge
 use Rattle.request.proofs.Request.parse.Reads as parse
+
+pub Request-judge-same : (κs : _) (a : _) (r r′ : _) (e e′ : _) → judge.Learnt κs a r e → judge.Learnt κs a r′ e′ → r ≡ r′
+Request-judge-same κs a r r′ e e′ p q =
+    let x = answer-apart (r .answer) (r′ .answer) (p .says ∙ sym (q .says)) in
+    let y = p .stopped ∙ sym (q .stopped) in
+    λ i. record { answer = x i; place = y i }
 
 pub Request-parse-same : (κs : _) (a : _) (r r′ : _) (e e′ : _) → parse.Learnt κs a r e → parse.Learnt κs a r′ e′ → (r ≡ r′) × (now (e .1 .1 .0) ≡ now (e′ .1 .1 .0))
 Request-parse-same κs a r r′ e e′ p q = (answer-apart r r′ (p .says ∙ sym (q .says)), p .left ∙ sym (q .left))

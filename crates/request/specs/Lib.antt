@@ -1,3 +1,3 @@
 pub mod Request
-pub mod State
+pub mod Code
 pub mod Messages

@@ -3,21 +3,24 @@ use Prim.Native.Nat.{ℕ, _+_, _/_}
 use mathlib.Core.Path.{_≡_}
 use mathlib.Core.List.{List, [], _∷_, map}
 use mathlib.Core.Bool.{Bool, true, false, cond, not, _&&_, _||_}
-use lib.ListN.{length}
+use lib.ListN.{length, take}
 use lib.Dec.{ltb, eqb}
 use Rattle.wire.specs.Bytes.{numberAt}
 use Rattle.wire.specs.Over.{over}
 use Rattle.nts.specs.Refusal.{nothing, code, Refused, toldRefusal}
 use Rattle.nts.specs.Algorithm.{Described, known, unknown, describe}
 use Rattle.layout.specs.declared.Part.{Part}
-use Rattle.walk.specs.Walk.{Act, passes, notes, refuses, Reader, Sighting}
+use Rattle.walk.specs.Walk.{Act, passes, notes, refuses, Reader, Sighting, walk}
 use Rattle.walk.specs.Judge as judge
 use Rattle.walk.specs.Judge.{Verdict, no, yes, Judge, some, withFirst, bodyIn, partOf, readBy}
 use Rattle.walk.specs.Table.{tableReader}
+use Rattle.walk.specs.Rules as rule
+use Rattle.walk.specs.Found.{placeOf}
 use Rattle.places.specs.Places.{cells, roomOf}
 use Rattle.request.specs.declared.Request.{Request}
 use Rattle.request.specs.declared.Request.the-variants.{KeyExchange, FixedKey, Support}
 use Rattle.request.specs.declared.Answer.{Answer}
+use Rattle.request.specs.declared.Judged.{Judged}
 use Rattle.request.specs.declared.Answer.the-variants.{Accepted}
 use Rattle.request.specs.declared.Answer.the-variants as answer
 
@@ -33,6 +36,26 @@ once k = eqb k 1 || eqb k 4 || eqb k 9 || eqb k 10 || eqb k 12 || eqb k 14
 
 abbrev pub reader : Reader
 reader = tableReader act once
+
+-- the same as the table of a walk, by kind
+abbrev pub rules : List ℕ
+rules =
+    rule.ending  -- 0 end
+    ∷ rule.once  -- 1 protocols
+    ∷ rule.refused  -- 2 error
+    ∷ rule.refused  -- 3 warning
+    ∷ rule.once  -- 4 algorithms
+    ∷ rule.refused  -- 5 cookie
+    ∷ rule.passed  -- 6 server
+    ∷ rule.passed  -- 7 port
+    ∷ rule.noted  -- 8 keep-alive
+    ∷ rule.once  -- 9 supported protocols
+    ∷ rule.once  -- 10 supported algorithms
+    ∷ rule.refused  -- 11, which is unknown and not asked
+    ∷ rule.once  -- 12 keys
+    ∷ rule.noted  -- 13 denied
+    ∷ rule.once  -- 14 authentication
+    ∷ []
 
 -- ---- after the end
 
@@ -62,22 +85,32 @@ fixedBy val u x a p k =
     (keyed (describe (numberAt (val a) 0)) (numberAt (val a) 0) (length (val x) / 2) (fixedKey u x a p k))
     (no 4 nothing)
 
-unfoldable pub decide : ℕ → {A : Type 0} → (A → List ℕ) → (ℕ → List A) → Verdict Form A
-decide room val l =
-    -- 1. with either supported list: authentication, and no key, protocol or algorithm record
-    cond (some (l 9) || some (l 10))
-    (withFirst (l 14) (no 4 nothing)
-    (λ u. cond (some (l 12) || some (l 1) || some (l 4)) (no 4 nothing) (yes (support u (some (l 9)) (some (l 10)) (some (l 8))))))
-    -- 2. with keys: authentication and both lists
-    (withFirst (l 12)
-    -- 3. otherwise both lists, even empty ones; then 7 if there are more denied names than room
-    (withFirst (l 1) (no 4 nothing)
-    (λ p. withFirst (l 4) (no 4 nothing)
-    (λ a. cond (ltb room (length (l 13))) (no 7 nothing) (yes (keyExchange p a (l 13))))))
-    (λ x. withFirst (l 14) (no 4 nothing)
+-- 1. with either supported list: authentication, and no key, protocol or algorithm record
+abbrev pub supportBy : {A : Type 0} → (ℕ → List A) → Verdict Form A
+supportBy l =
+    withFirst (l 14) (no 4 nothing)
+    (λ u. cond (some (l 12) || some (l 1) || some (l 4)) (no 4 nothing) (yes (support u (some (l 9)) (some (l 10)) (some (l 8)))))
+
+-- 2. with keys x: authentication and both lists
+abbrev pub keysBy : {A : Type 0} → (A → List ℕ) → (ℕ → List A) → A → Verdict Form A
+keysBy val l x =
+    withFirst (l 14) (no 4 nothing)
     (λ u. withFirst (l 1) (no 4 nothing)
     (λ p. withFirst (l 4) (no 4 nothing)
-    (λ a. fixedBy val u x a p (some (l 8)))))))
+    (λ a. fixedBy val u x a p (some (l 8)))))
+
+-- 3. otherwise both lists, even empty ones; then 7 if there are more denied names than room
+abbrev pub exchangeBy : {A : Type 0} → ℕ → (ℕ → List A) → Verdict Form A
+exchangeBy room l =
+    withFirst (l 1) (no 4 nothing)
+    (λ p. withFirst (l 4) (no 4 nothing)
+    (λ a. cond (ltb room (length (l 13))) (no 7 nothing) (yes (keyExchange p a (l 13)))))
+
+unfoldable pub decide : ℕ → {A : Type 0} → (A → List ℕ) → (ℕ → List A) → Verdict Form A
+decide room val l =
+    cond (some (l 9) || some (l 10))
+    (supportBy l)
+    (withFirst (l 12) (exchangeBy room l) (λ x. keysBy val l x))
 
 abbrev pub judging : Judge
 judging = record { Q = Form; mapQ = λ {A} {B} f q. mapForm f q; decide = λ u {A} val l. decide (u .room) val l }
@@ -132,7 +165,14 @@ namesOf (judge.accepted (support u p a k)) = []
 unfoldable pub tableAfter : judge.Answer Form → List ℕ → List ℕ
 tableAfter x table = over (cells (namesOf x)) table
 
--- the reader's contract: what it answers, and the table afterwards
+-- ---- the contracts
+
+-- what is answered with room for so many names, and the place of the record at which the walk stopped
+pub record Judges (m : List ℕ) (n room : ℕ) (r : Judged) : Type 0 where
+  pub says : toldAnswer (r .answer) ≡ toldBy m (request m n room)
+  pub stopped : r .place ≡ placeOf (walk reader [] 0 0 (take n m))
+
+-- what the reader answers, and the table afterwards
 pub record Reads (m : List ℕ) (n : ℕ) (table : List ℕ) (r : Answer) (table′ : List ℕ) : Type 0 where
   pub says : toldAnswer r ≡ toldBy m (request m n (roomOf table))
   pub left : table′ ≡ tableAfter (request m n (roomOf table)) table

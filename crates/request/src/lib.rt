@@ -1,23 +1,29 @@
-// Reading a request (the crate's Request::parse).
+// Reading a request (the crate's Request::parse): its table for the walk, the decision over what the walk found, and its answers.
 use nts::AeadAlgorithm;
 use nts::Description;
 use nts::NextProtocol;
 use nts::NtsError;
 use nts::Refusal;
-use places::Slot;
-use record::Cursor;
 use record::NtsRecord;
-use record::Parsed;
 use record::Part;
+use walk::ENDING;
+use walk::NOTED;
+use walk::ONCE;
+use walk::PASSED;
+use walk::REFUSED;
+use walk::Seen;
+use walk::Stop;
+use walk::Walked;
 ghost use mathlib.Core.Path.{_≡_};
-ghost use mathlib.Core.List.{[]};
-ghost use mathlib.Core.Bool.{true};
-ghost use Prim.Native.Nat.{_+_, _<_, _^_};
-ghost use Rattle.walk.specs.Walk.{walk};
-ghost use Rattle.walk.specs.Held.{wayOf};
-ghost use Rattle.places.specs.Slots.{here};
-ghost use Rattle.request.specs.Request.{reader, toldAnswer, Reads};
-ghost use Rattle.request.specs.State.{tally, withProtocols, withAlgorithms, withKeys, withAuthentication, withCounts, unless, unknownMet, meetItem, unreadOf, handedUp, toldWalked, supportIn, isOne, keysIn, fixedIn, exchangeIn, decidedIn, isExchange};
+ghost use mathlib.Core.List.{List};
+ghost use Prim.Native.Nat.{ℕ};
+ghost use lib.ListN.{length, take};
+ghost use Rattle.walk.specs.Judge.{bodyIn, placed};
+ghost use Rattle.walk.specs.Found.{entryIn, toldIn, firstIn, Walks};
+ghost use Rattle.walk.specs.Code.{Fits};
+ghost use Rattle.request.specs.Code.{isOne, fixedIn, keysAre, deniedIn};
+ghost use Rattle.request.specs.Request as request;
+ghost use Rattle.request.specs.Request.{rules, supportBy, keysBy, exchangeBy, toldBy, toldAnswer, Judges, Reads};
 
 // A request that was accepted, with the crate's fields; bodies, names and keys are parts of the message.
 pub enum Request {
@@ -47,37 +53,33 @@ pub enum Answer {
     Refused(Refusal),
 }
 
-// Whether a key record was there, and its halves.
-pub struct KeySlot {
-    pub there: bool,
-    pub c2s: Part,
-    pub s2c: Part,
+// The bytes of one number.
+const NUMBER: u16 = 2;
+
+// An answer, and the place of the record at which the walk stopped: the end record, or the one refused.
+pub struct Judged {
+    pub answer: Answer,
+    pub place: usize,
 }
 
-// What the records passed so far say.
-pub struct Found {
-    pub protocols: Slot,
-    pub algorithms: Slot,
-    pub keys: KeySlot,
-    pub authentication: Slot,
-    pub wants_protocols: bool,
-    pub wants_algorithms: bool,
-    pub keep_alive: bool,
-    pub denied: usize,
-}
-
-// What one record does to that.
-pub enum Step {
-    On(Found),
-    Stop(NtsError),
-    End,
-}
-
-// How a walk stopped.
-pub enum Walked {
-    Ended { place: usize, found: Found },
-    Refused(Refusal),
-}
+// What is done with a record, by its kind.
+const RULES: [u8; 15] = [
+    ENDING, // 0 end
+    ONCE, // 1 protocols
+    REFUSED, // 2 error
+    REFUSED, // 3 warning
+    ONCE, // 4 algorithms
+    REFUSED, // 5 cookie
+    PASSED, // 6 server
+    PASSED, // 7 port
+    NOTED, // 8 keep-alive
+    ONCE, // 9 supported protocols
+    ONCE, // 10 supported algorithms
+    REFUSED, // 11, which is unknown and not asked
+    ONCE, // 12 keys
+    NOTED, // 13 denied
+    ONCE, // 14 authentication
+];
 
 impl Request {
     // Reads a request as if the message were cut after `limit` bytes. The names that an accepted key-exchange request denies
@@ -85,248 +87,49 @@ impl Request {
     pub fn parse(message: &[u8], limit: u16, table: &mut [u16]) -> Answer
         ensures { λ r. ⌜ Reads (now (message .entry)) limit (now (table .entry)) r (now (table .exit)) ⌝ }
     {
-        let cut = places::cut_at(message, limit);
-        let walked = walk_all(cut);
-        let Walked::Ended { place, found } = walked else {
-            return handed_up(walked);
-        };
-        let answer = decide(message, found, place, table.len() / 2);
-        if is_exchange(answer) {
-            places::fill(message, limit, NtsRecord::NTP_SERVER_DENY, table);
+        let judged = Request::judge(message, limit, table.len() / 2);
+        let answer = judged.answer;
+        let place = judged.place;
+        let denied = denied_in(answer);
+        if denied == 0 {
+            return answer;
         }
+        places::fill(
+            &message[0..place],
+            NtsRecord::NTP_SERVER_DENY,
+            denied,
+            table,
+        );
         answer
     }
-}
 
-const EMPTY: Part = Part { start: 0, len: 0 };
-
-// What no record says.
-fn nothing_found() -> Found
-    ensures { λ r. ⌜ r ≡ tally [] ⌝ }
-{
-    let slot = Slot {
-        there: false,
-        body: EMPTY,
-    };
-    Found {
-        protocols: slot,
-        algorithms: slot,
-        keys: KeySlot {
-            there: false,
-            c2s: EMPTY,
-            s2c: EMPTY,
-        },
-        authentication: slot,
-        wants_protocols: false,
-        wants_algorithms: false,
-        keep_alive: false,
-        denied: 0,
-    }
-}
-
-// The walk: record after record, until one is refused or the first end record. A denied name, of which there may be many, is
-// counted and passed over at once.
-fn walk_all(cut: &[u8]) -> Walked
-    ensures { λ r. ⌜ toldWalked r ≡ wayOf tally (walk reader [] 0 0 (now (cut .entry))) ⌝ }
-{
-    let mut at: usize = 0;
-    let mut found = nothing_found();
-    loop {
-        let end = record::end_of(NtsRecord::NTP_SERVER_DENY, cut, at);
-        if end != 0 {
-            found.denied = found.denied + 1;
-            at = end;
-            continue;
+    // What `parse` answers with room for so many names, and where the walk stopped.
+    pub fn judge(message: &[u8], limit: u16, room: usize) -> Judged
+        ensures { λ r. ⌜ Judges (now (message .entry)) limit room r ⌝ }
+    {
+        let mut cells = [0u16; 45];
+        let walked = walk_all(message, limit, &mut cells);
+        let place = walked.place;
+        let stop = walked.stop;
+        match stop {
+            Stop::End => Judged {
+                answer: decide(message, &cells, place, room),
+                place,
+            },
+            Stop::Refused(error) => Judged {
+                answer: refused(error, place),
+                place,
+            },
         }
-        let answer = NtsRecord::parse(cut, at);
-        let Parsed::Read(x) = answer else {
-            return unread(answer);
-        };
-        let item = x.item;
-        let step = take_record(found, item);
-        match step {
-            Step::On(next) => {
-                found = next;
-            }
-            Step::Stop(error) => {
-                return Walked::Refused(Refusal { error, place: at });
-            }
-            Step::End => {
-                return Walked::Ended { place: at, found };
-            }
-        }
-        at = x.next.at;
     }
 }
 
-// The record reader's refusal, handed up with its place.
-fn unread(answer: Parsed) -> Walked
-    ensures { λ r. ⌜ r ≡ unreadOf answer ⌝ }
+// The walk by this reader's table.
+fn walk_all(message: &[u8], limit: u16, cells: &mut [u16; 45]) -> Walked
+    ensures { λ r. ⌜ Walks rules (take limit (now (message .entry))) r (now (cells .exit)) ⌝ }
 {
-    match answer {
-        Parsed::Refused(refusal) => Walked::Refused(refusal),
-        Parsed::Read(x) => Walked::Refused(Refusal {
-            error: NtsError::UnexpectedEof,
-            place: x.next.at,
-        }),
-    }
-}
-
-// The walk's refusal, handed up with its place.
-fn handed_up(walked: Walked) -> Answer
-    ensures { λ r. ⌜ r ≡ handedUp walked ⌝ }
-{
-    match walked {
-        Walked::Refused(refusal) => Answer::Refused(refusal),
-        Walked::Ended { place, found: _ } => Answer::Refused(Refusal {
-            error: NtsError::UnexpectedEof,
-            place,
-        }),
-    }
-}
-
-// One record met: what is found from then on, or why the walk stops.
-fn take_record(found: Found, item: NtsRecord) -> Step
-    requires { ⌜ found .denied + 1 < 2 ^ 64 ⌝ }
-    ensures { λ r. ⌜ r ≡ meetItem found item ⌝ }
-{
-    match item {
-        NtsRecord::EndOfMessage => Step::End,
-        NtsRecord::NextProtocol(p) => take_protocols(found, p),
-        NtsRecord::Error(_) => Step::Stop(NtsError::Invalid),
-        NtsRecord::Warning(_) => Step::Stop(NtsError::Invalid),
-        NtsRecord::AeadAlgorithm(p) => take_algorithms(found, p),
-        NtsRecord::NewCookie(_) => Step::Stop(NtsError::Invalid),
-        NtsRecord::Server(_) => Step::On(found),
-        NtsRecord::Port(_) => Step::On(found),
-        NtsRecord::KeepAlive => take_keep_alive(found),
-        NtsRecord::SupportedNextProtocolList(_) => take_protocols_wanted(found),
-        NtsRecord::SupportedAlgorithmList(_) => take_algorithms_wanted(found),
-        NtsRecord::FixedKeyRequest { c2s, s2c } => take_keys(found, c2s, s2c),
-        NtsRecord::NtpServerDeny(_) => take_denied(found),
-        NtsRecord::Authentication(p) => take_authentication(found, p),
-        NtsRecord::Unknown {
-            record_type: _,
-            critical,
-            data: _,
-        } => take_unknown(found, critical),
-    }
-}
-
-fn take_protocols(found: Found, body: Part) -> Step
-    ensures { λ r. ⌜ r ≡ unless (found .protocols .there) (withProtocols found (here body)) ⌝ }
-{
-    if found.protocols.there {
-        return Step::Stop(NtsError::Invalid);
-    }
-    let mut next = found;
-    let slot = Slot { there: true, body };
-    next.protocols = slot;
-    Step::On(next)
-}
-
-fn take_algorithms(found: Found, body: Part) -> Step
-    ensures { λ r. ⌜ r ≡ unless (found .algorithms .there) (withAlgorithms found (here body)) ⌝ }
-{
-    if found.algorithms.there {
-        return Step::Stop(NtsError::Invalid);
-    }
-    let mut next = found;
-    let slot = Slot { there: true, body };
-    next.algorithms = slot;
-    Step::On(next)
-}
-
-fn take_authentication(found: Found, body: Part) -> Step
-    ensures { λ r. ⌜ r ≡ unless (found .authentication .there) (withAuthentication found (here body)) ⌝ }
-{
-    if found.authentication.there {
-        return Step::Stop(NtsError::Invalid);
-    }
-    let mut next = found;
-    let slot = Slot { there: true, body };
-    next.authentication = slot;
-    Step::On(next)
-}
-
-fn take_keys(found: Found, c2s: Part, s2c: Part) -> Step
-    ensures { λ r. ⌜ r ≡ unless (found .keys .there) (withKeys found (record { there = true; c2s = c2s; s2c = s2c })) ⌝ }
-{
-    if found.keys.there {
-        return Step::Stop(NtsError::Invalid);
-    }
-    let mut next = found;
-    let slot = KeySlot {
-        there: true,
-        c2s,
-        s2c,
-    };
-    next.keys = slot;
-    Step::On(next)
-}
-
-fn take_protocols_wanted(found: Found) -> Step
-    ensures { λ r. ⌜ r ≡ unless (found .«wants_protocols») (withCounts found true (found .«wants_algorithms») (found .«keep_alive») (found .denied)) ⌝ }
-{
-    if found.wants_protocols {
-        return Step::Stop(NtsError::Invalid);
-    }
-    let mut next = found;
-    next.wants_protocols = true;
-    Step::On(next)
-}
-
-fn take_algorithms_wanted(found: Found) -> Step
-    ensures { λ r. ⌜ r ≡ unless (found .«wants_algorithms») (withCounts found (found .«wants_protocols») true (found .«keep_alive») (found .denied)) ⌝ }
-{
-    if found.wants_algorithms {
-        return Step::Stop(NtsError::Invalid);
-    }
-    let mut next = found;
-    next.wants_algorithms = true;
-    Step::On(next)
-}
-
-fn take_keep_alive(found: Found) -> Step
-    ensures { λ r. ⌜ r ≡ Step.On (withCounts found (found .«wants_protocols») (found .«wants_algorithms») true (found .denied)) ⌝ }
-{
-    let mut next = found;
-    next.keep_alive = true;
-    Step::On(next)
-}
-
-fn take_denied(found: Found) -> Step
-    requires { ⌜ found .denied + 1 < 2 ^ 64 ⌝ }
-    ensures { λ r. ⌜ r ≡ Step.On (withCounts found (found .«wants_protocols») (found .«wants_algorithms») (found .«keep_alive») (found .denied + 1)) ⌝ }
-{
-    let mut next = found;
-    next.denied = found.denied + 1;
-    Step::On(next)
-}
-
-fn take_unknown(found: Found, critical: bool) -> Step
-    ensures { λ r. ⌜ r ≡ unknownMet critical found ⌝ }
-{
-    if critical {
-        return Step::Stop(NtsError::UnrecognizedCriticalRecord);
-    }
-    Step::On(found)
-}
-
-// The decision after the end record, whose place a refusal bears.
-fn decide(message: &[u8], found: Found, place: usize, room: usize) -> Answer
-    ensures { λ r. ⌜ toldAnswer r ≡ decidedIn (now (message .entry)) found place room ⌝ }
-{
-    if found.wants_protocols {
-        return decide_support(found, place);
-    }
-    if found.wants_algorithms {
-        return decide_support(found, place);
-    }
-    if found.keys.there {
-        return decide_fixed(message, found, place);
-    }
-    decide_exchange(found, place, room)
+    let rules = RULES;
+    walk::walk(&rules, message, limit, cells)
 }
 
 fn refused(error: NtsError, place: usize) -> Answer
@@ -335,75 +138,90 @@ fn refused(error: NtsError, place: usize) -> Answer
     Answer::Refused(Refusal { error, place })
 }
 
-fn decide_support(found: Found, place: usize) -> Answer
-    ensures { λ r. ⌜ toldAnswer r ≡ supportIn found place ⌝ }
+// The decision after the end record, whose place a refusal bears.
+fn decide(message: &[u8], cells: &[u16; 45], place: usize, room: usize) -> Answer
+    requires { ⌜ Fits rules (length (now message)) (now cells) ⌝ }
+    ensures { λ r. ⌜ toldAnswer r ≡ toldBy (now (message .entry)) (placed place (request.decide room (bodyIn (now (message .entry))) (toldIn (now (cells .entry))))) ⌝ }
 {
-    if found.authentication.there {
-        if found.keys.there {
-            return refused(NtsError::Invalid, place);
-        }
-        if found.protocols.there {
-            return refused(NtsError::Invalid, place);
-        }
-        if found.algorithms.there {
-            return refused(NtsError::Invalid, place);
-        }
-        let authentication = found.authentication.body;
-        return Answer::Accepted(Request::Support {
-            authentication,
-            wants_protocols: found.wants_protocols,
-            wants_algorithms: found.wants_algorithms,
-            keep_alive: found.keep_alive,
-        });
+    if walk::is_there(cells, NtsRecord::SUPPORTED_NEXT_PROTOCOL_LIST) {
+        return decide_support(cells, place);
     }
-    refused(NtsError::Invalid, place)
+    if walk::is_there(cells, NtsRecord::SUPPORTED_ALGORITHM_LIST) {
+        return decide_support(cells, place);
+    }
+    if walk::is_there(cells, NtsRecord::FIXED_KEY_REQUEST) {
+        return decide_fixed(message, cells, place);
+    }
+    decide_exchange(cells, place, room)
 }
 
-fn decide_exchange(found: Found, place: usize, room: usize) -> Answer
-    ensures { λ r. ⌜ toldAnswer r ≡ exchangeIn found place room ⌝ }
+fn decide_support(cells: &[u16; 45], place: usize) -> Answer
+    ensures { λ r. ⌜ ((m : List ℕ) → toldAnswer r ≡ toldBy m (placed place (supportBy (toldIn (now (cells .entry)))))) ⌝ }
 {
-    let protocols = found.protocols;
-    let algorithms = found.algorithms;
-    if protocols.there {
-        if algorithms.there {
-            if room < found.denied {
-                return refused(NtsError::TableFull, place);
-            }
-            return exchange(protocols.body, algorithms.body, found.denied);
-        }
+    let authentication = walk::found(cells, NtsRecord::AUTHENTICATION);
+    if authentication.count == 0 {
         return refused(NtsError::Invalid, place);
     }
-    refused(NtsError::Invalid, place)
+    if walk::is_there(cells, NtsRecord::FIXED_KEY_REQUEST) {
+        return refused(NtsError::Invalid, place);
+    }
+    if walk::is_there(cells, NtsRecord::NEXT_PROTOCOL) {
+        return refused(NtsError::Invalid, place);
+    }
+    if walk::is_there(cells, NtsRecord::AEAD_ALGORITHM) {
+        return refused(NtsError::Invalid, place);
+    }
+    Answer::Accepted(Request::Support {
+        authentication: authentication.body(),
+        wants_protocols: walk::is_there(cells, NtsRecord::SUPPORTED_NEXT_PROTOCOL_LIST),
+        wants_algorithms: walk::is_there(cells, NtsRecord::SUPPORTED_ALGORITHM_LIST),
+        keep_alive: walk::is_there(cells, NtsRecord::KEEP_ALIVE),
+    })
 }
 
-fn exchange(protocols: Part, algorithms: Part, denied: usize) -> Answer
-    ensures { λ r. ⌜ r ≡ Answer.Accepted (Request.KeyExchange protocols algorithms denied) ⌝ }
+fn decide_exchange(cells: &[u16; 45], place: usize, room: usize) -> Answer
+    ensures { λ r. ⌜ ((m : List ℕ) → toldAnswer r ≡ toldBy m (placed place (exchangeBy room (toldIn (now (cells .entry)))))) ⌝ }
 {
+    let protocols = walk::found(cells, NtsRecord::NEXT_PROTOCOL);
+    let algorithms = walk::found(cells, NtsRecord::AEAD_ALGORITHM);
+    let denied = walk::found(cells, NtsRecord::NTP_SERVER_DENY).count as usize;
+    if protocols.count == 0 {
+        return refused(NtsError::Invalid, place);
+    }
+    if algorithms.count == 0 {
+        return refused(NtsError::Invalid, place);
+    }
+    if room < denied {
+        return refused(NtsError::TableFull, place);
+    }
     Answer::Accepted(Request::KeyExchange {
-        protocols,
-        algorithms,
+        protocols: protocols.body(),
+        algorithms: algorithms.body(),
         denied,
     })
 }
 
 // Whether a list was there, with one entry.
-fn is_one(list: Slot) -> bool
+fn is_one(list: Seen) -> bool
     ensures { λ r. ⌜ r ≡ isOne list ⌝ }
 {
-    if list.there {
-        return list.body.len == 2;
+    if list.count == 0 {
+        return false;
     }
-    false
+    list.len == NUMBER
 }
 
 // Authentication and both lists, each of one entry; then the algorithm, and its key length.
-fn decide_fixed(message: &[u8], found: Found, place: usize) -> Answer
-    ensures { λ r. ⌜ toldAnswer r ≡ fixedIn (now (message .entry)) found place ⌝ }
+fn decide_fixed(message: &[u8], cells: &[u16; 45], place: usize) -> Answer
+    requires { ⌜ Fits rules (length (now message)) (now cells) ⌝ }
+    ensures { λ r. ⌜ toldAnswer r ≡ toldBy (now (message .entry)) (placed place (keysBy (bodyIn (now (message .entry))) (toldIn (now (cells .entry))) (firstIn (now (cells .entry)) 12))) ⌝ }
 {
-    if found.authentication.there {
-        if is_one(found.protocols) {
-            if is_one(found.algorithms) {
-                return decide_keys(message, found, place);
+    let protocols = walk::found(cells, NtsRecord::NEXT_PROTOCOL);
+    let algorithms = walk::found(cells, NtsRecord::AEAD_ALGORITHM);
+    if walk::is_there(cells, NtsRecord::AUTHENTICATION) {
+        if is_one(protocols) {
+            if is_one(algorithms) {
+                return decide_keys(message, cells, place);
             }
             return refused(NtsError::Invalid, place);
         }
@@ -412,26 +230,19 @@ fn decide_fixed(message: &[u8], found: Found, place: usize) -> Answer
     refused(NtsError::Invalid, place)
 }
 
-fn decide_keys(message: &[u8], found: Found, place: usize) -> Answer
-    ensures { λ r. ⌜ toldAnswer r ≡ keysIn (now (message .entry)) found place ⌝ }
+// The algorithm decides over the keys' length.
+fn decide_keys(message: &[u8], cells: &[u16; 45], place: usize) -> Answer
+    requires { ⌜ Fits rules (length (now message)) (now cells) × (entryIn (now cells) 1 .len ≡ 2) × (entryIn (now cells) 4 .len ≡ 2) ⌝ }
+    ensures { λ r. ⌜ toldAnswer r ≡ toldBy (now (message .entry)) (placed place (fixedIn (bodyIn (now (message .entry))) (now (cells .entry)))) ⌝ }
 {
-    let algorithm = AeadAlgorithm(wire::number_at(message, found.algorithms.body.start));
-    let protocol = NextProtocol(wire::number_at(message, found.protocols.body.start));
+    let keys = walk::found(cells, NtsRecord::FIXED_KEY_REQUEST);
+    let algorithms = walk::found(cells, NtsRecord::AEAD_ALGORITHM);
+    let algorithm = AeadAlgorithm(wire::number_at(message, algorithms.start as usize));
     let description = algorithm.description();
     match description {
         Description::Known(d) => {
-            if found.keys.c2s.len == d.keysize as usize {
-                let authentication = found.authentication.body;
-                let c2s = found.keys.c2s;
-                let s2c = found.keys.s2c;
-                return Answer::Accepted(Request::FixedKey {
-                    authentication,
-                    c2s,
-                    s2c,
-                    algorithm,
-                    protocol,
-                    keep_alive: found.keep_alive,
-                });
+            if keys.len / 2 == d.keysize {
+                return fixed_key(message, cells, algorithm);
             }
             refused(NtsError::IncorrectSizedKey, place)
         }
@@ -439,17 +250,37 @@ fn decide_keys(message: &[u8], found: Found, place: usize) -> Answer
     }
 }
 
-// Whether names are to be put into the table.
-fn is_exchange(answer: Answer) -> bool
-    ensures { λ r. ⌜ r ≡ isExchange (toldAnswer answer) ⌝ }
+fn fixed_key(message: &[u8], cells: &[u16; 45], algorithm: AeadAlgorithm) -> Answer
+    ensures { λ r. ⌜ toldAnswer r ≡ keysAre (now (message .entry)) (now (cells .entry)) (algorithm .0) ⌝ }
+{
+    let keys = walk::found(cells, NtsRecord::FIXED_KEY_REQUEST);
+    let start = keys.start as usize;
+    let half = (keys.len / 2) as usize;
+    let protocols = walk::found(cells, NtsRecord::NEXT_PROTOCOL);
+    Answer::Accepted(Request::FixedKey {
+        authentication: walk::found(cells, NtsRecord::AUTHENTICATION).body(),
+        c2s: Part { start, len: half },
+        s2c: Part {
+            start: start + half,
+            len: half,
+        },
+        algorithm,
+        protocol: NextProtocol(wire::number_at(message, protocols.start as usize)),
+        keep_alive: walk::is_there(cells, NtsRecord::KEEP_ALIVE),
+    })
+}
+
+// How many names are to be put into the table: those of an accepted key-exchange request.
+fn denied_in(answer: Answer) -> usize
+    ensures { λ r. ⌜ r ≡ deniedIn (toldAnswer answer) ⌝ }
 {
     match answer {
         Answer::Accepted(request) => match request {
             Request::KeyExchange {
                 protocols: _,
                 algorithms: _,
-                denied: _,
-            } => true,
+                denied,
+            } => denied,
             Request::FixedKey {
                 authentication: _,
                 c2s: _,
@@ -457,14 +288,14 @@ fn is_exchange(answer: Answer) -> bool
                 algorithm: _,
                 protocol: _,
                 keep_alive: _,
-            } => false,
+            } => 0,
             Request::Support {
                 authentication: _,
                 wants_protocols: _,
                 wants_algorithms: _,
                 keep_alive: _,
-            } => false,
+            } => 0,
         },
-        Answer::Refused(_) => false,
+        Answer::Refused(_) => 0,
     }
 }

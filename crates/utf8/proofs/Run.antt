@@ -1,16 +1,17 @@
 -- Laws of `wellFormed` from a place on: what one turn of a loop over the bytes needs.
 -- Assumes nothing.
-use mathlib.Core.Path.{_≡_, refl, sym, _∙_}
+use mathlib.Core.Path.{_≡_, refl, sym, subst, _∙_}
 use mathlib.Core.Bool.{Bool, true, false}
+use mathlib.Core.Logic.{⊎-elim}
 use mathlib.Core.List.{List, [], _∷_}
-use Prim.Native.Nat.{ℕ, zero, suc, _+_, _<_, _≤_, zero-le, suc-le-suc}
-use native.Mathlib.Nat.{le-refl}
+use Prim.Native.Nat.{ℕ, zero, suc, _+_, _-_, _<_, _≤_, zero-le, suc-le-suc}
+use native.Mathlib.Nat.{le-refl, not-suc-le-zero, eq-or-lt-of-le, add-zero, add-sub-cancel-left}
 use native.Mathlib.Omega.{arith}
 use borrow.Author.Tests.{le-leb}
-use lib.ListN.{length, getD, drop, length-drop, drop-of-length-le}
-use lib.Seq.{drop-cons, drop-drop}
+use lib.ListN.{length, getD, take, drop, length-drop, drop-of-length-le}
+use lib.Seq.{length-take-le, drop-cons, drop-drop, getD-drop, getD-take}
 use Rattle.utf8.specs.Utf8.{rows, fits, charSize, octets, wellFormed}
-use Rattle.utf8.specs.Lead.{leadSize, second, sizeOf, sizeAt, Passed}
+use Rattle.utf8.specs.Lead.{leadSize, second, sizeOf, sizeAt, Ascii, Passed}
 use Rattle.utf8.proofs.Rows.{same-size}
 use Rattle.utf8.proofs.Tests.{never, on, and-right}
 
@@ -70,6 +71,30 @@ passed-none s at = record { onward = le-refl at; inside = λ h. h; same = refl }
 
 pub passed-more : {s : List ℕ} {at i : ℕ} → Passed s at i → i < length s → getD s i 0 ≤ 0x7F → Passed s at (i + 1)
 passed-more {s} {at} {i} p h l = record { onward = omega arith; inside = λ k. omega arith; same = at-ascii s i h l ∙ p .same }
+
+-- no byte, and one more ASCII byte
+pub ascii-none : (s : List ℕ) → Ascii s 0
+ascii-none s = record { each = λ k h. absurd (not-suc-le-zero h) }
+
+pub ascii-more : {s : List ℕ} {n : ℕ} → Ascii s n → getD s n 0 ≤ 0x7F → Ascii s (n + 1)
+ascii-more {s} {n} a l =
+    record { each = λ k h. let m : k ≤ n = omega arith in ⊎-elim (λ e. rw e l) (λ b. a .each k b) (eq-or-lt-of-le m) }
+
+-- a block of ASCII bytes is passed, one of them after the other: n bytes from a place on, and the same read from their slice
+passed-all : {s : List ℕ} {at i : ℕ} (n : ℕ) → Passed s at i → i + n ≤ length s → ((k : ℕ) → k < n → getD s (i + k) 0 ≤ 0x7F) → Passed s at (i + n)
+passed-all {s} {at} {i} zero p h a = rw add-zero p
+passed-all {s} {at} {i} (suc n) p h a =
+    subst (λ (r : ℕ). Passed s at r) (omega arith)
+    (passed-more (passed-all n p (omega arith) (λ k l. a k (omega arith))) (omega arith) (a n (omega arith)))
+
+pub passed-block : {s : List ℕ} {at i : ℕ} (n : ℕ) → Passed s at i → i + n ≤ length s
+    → Ascii (take (i + n - i) (drop i s)) (length (take (i + n - i) (drop i s))) → Passed s at (i + n)
+passed-block {s} {at} {i} n p h a =
+    let e : length (take (i + n - i) (drop i s)) ≡ n = rw add-sub-cancel-left (length-take-le n (drop i s) (omega (arith, length-drop i s))) in
+    passed-all n p h
+    (λ k l.
+    let t : getD (take (i + n - i) (drop i s)) k 0 ≡ getD s (i + k) 0 = getD-take (i + n - i) (drop i s) k 0 (omega arith) ∙ getD-drop i s k 0 in
+    rw (← t) (a .each k (omega (arith, e))))
 
 -- a sequence of two bytes: its lead byte and its second alone say so
 pub at-pair : (s : List ℕ) (at : ℕ) → leadSize (getD s at 0) ≡ 2 → second (getD s at 0) (getD s (at + 1) 0) ≡ true → 2 ≡ sizeAt s at

@@ -1,6 +1,6 @@
 -- The lead-byte rule of 01, "The record", last paragraph: the sequence length by the lead byte, and which byte may follow it.
 -- proofs/Rows.antt proves it equal to the rows of RFC 3629.
-use Prim.Native.Nat.{ℕ, _+_, _≤_}
+use Prim.Native.Nat.{ℕ, _+_, _<_, _≤_}
 use mathlib.Core.Path.{_≡_}
 use mathlib.Core.List.{List}
 use mathlib.Core.Bool.{Bool, cond, _&&_, _||_}
@@ -32,6 +32,10 @@ sizeOf a b c d = cond (whole (leadSize a) (second a b) (tail c) (tail d)) (leadS
 -- the same at a place of a list; a byte past the end reads as 0, which continues nothing
 unfoldable pub sizeAt : List ℕ → ℕ → ℕ
 sizeAt s at = sizeOf (getD s at 0) (getD s (at + 1) 0) (getD s (at + 2) 0) (getD s (at + 3) 0)
+
+-- the first n bytes of a list are ASCII
+pub record Ascii (s : List ℕ) (n : ℕ) : Type 0 where
+  pub each : (k : ℕ) → k < n → getD s k 0 ≤ 0x7F
 
 -- a place r, from a place on, up to which nothing was passed over that the check could refuse
 pub record Passed (s : List ℕ) (at r : ℕ) : Type 0 where

@@ -1,10 +1,17 @@
 // A checker of UTF-8, after RFC 3629, section 4. There is no limit on its input.
 ghost use mathlib.Core.Path.{_≡_};
 ghost use mathlib.Core.Bool.{true};
-ghost use Prim.Native.Nat.{_<_};
+ghost use Prim.Native.Nat.{_<_, _≤_};
 ghost use lib.ListN.{length};
 ghost use Rattle.utf8.specs.Utf8.{tail, wellFormed};
-ghost use Rattle.utf8.specs.Lead.{leadSize, second, sizeOf, sizeAt, Passed};
+ghost use Rattle.utf8.specs.Lead.{leadSize, second, sizeOf, sizeAt, Ascii, Passed};
+
+// How many bytes a block of ASCII has, in the first pass over blocks, the second and the third.
+const LARGE: usize = 128;
+
+const MIDDLE: usize = 16;
+
+const SMALL: usize = 4;
 
 // How many bytes a sequence with this lead byte has, or 0 where the byte leads none: the count of its leading one
 // bits, which are the leading zeros of its complement; a byte that has none is ASCII.
@@ -96,7 +103,7 @@ fn after_ascii(s: &[u8], at: usize) -> usize
 
 // Whether all of the bytes are ASCII, told by one pass without a way out of it, which takes many bytes at a time.
 fn is_ascii(s: &[u8]) -> bool
-    ensures { λ r. ⌜ (r ≡ true → wellFormed (now (s .entry)) ≡ true) ⌝ }
+    ensures { λ r. ⌜ (r ≡ true → Ascii (now (s .entry)) (length (now (s .entry)))) ⌝ }
 {
     let mut all = true;
     let mut i = 0;
@@ -107,6 +114,22 @@ fn is_ascii(s: &[u8]) -> bool
         i += 1;
     }
     all
+}
+
+// The first place from `at` on, `size` bytes a step, from which not so many ASCII bytes follow.
+fn after_blocks(s: &[u8], at: usize, size: usize) -> usize
+    requires { ⌜ (at ≤ length (now s)) × (0 < size) ⌝ }
+    ensures { λ r. ⌜ Passed (now (s .entry)) at r ⌝ }
+{
+    let mut i = at;
+    while size <= s.len() - i {
+        let end = i + size;
+        if !is_ascii(&s[i..end]) {
+            return i;
+        }
+        i = end;
+    }
+    i
 }
 
 // The first place from `at` on, two bytes a step, where no sequence of two bytes is.
@@ -134,10 +157,10 @@ fn after_pairs(s: &[u8], at: usize) -> usize
 pub fn is_utf8(s: &[u8]) -> bool
     ensures { λ r. ⌜ r ≡ wellFormed (now (s .entry)) ⌝ }
 {
-    if is_ascii(s) {
-        return true;
-    }
-    let mut at = after_ascii(s, 0);
+    let mut at = after_ascii(
+        s,
+        after_blocks(s, after_blocks(s, after_blocks(s, 0, LARGE), MIDDLE), SMALL),
+    );
     while at < s.len() {
         let n = size_at(s, at);
         if n == 0 {

@@ -1,45 +1,87 @@
--- From how code's walk over a message stopped to what a reader and its judge answer of it.
+-- From what a walk in code gave back to what a reader and its judge answer of the message; for every table that is that reader.
 -- Assumes nothing.
 use mathlib.Core.Path.{_≡_, refl, sym, ap, _∙_}
 use mathlib.Core.List.{List, []}
-use Prim.Native.Nat.{ℕ, _+_, _≤_}
+use mathlib.Core.Bool.{true}
+use Prim.Native.Nat.{ℕ, _<_}
 use native.Mathlib.Omega.{arith}
-use lib.ListN.{length, take, length-take}
-use Rattle.nts.specs.Refusal.{Refused}
+use lib.ListN.{length, take, getD, length-take}
+use Rattle.nts.specs.Refusal.{Refused, numberOf, besideOf}
+use Rattle.nts.specs.declared.NtsError.{NtsError}
 use Rattle.walk.specs.Walk.{Reader, Sighting, Outcome, stopped, ended, walk}
-use Rattle.walk.specs.Judge.{Under, Judge, ofKind, bodyIn, refused, placed, finish, readBy}
-use Rattle.walk.specs.Held.{Way, wayRefused, wayEnded, wayOf}
-use Rattle.walk.proofs.Noted.{Inside, walk-inside}
+use Rattle.walk.specs.Judge.{Under, Judge, Answer, ofKind, bodyIn, refused, placed, finish, readBy}
+use Rattle.walk.specs.Table.{known}
+use Rattle.walk.specs.Rules.{isNoted, readerOf}
+use Rattle.walk.specs.Found.{seenOf, entryIn, toldIn, wayRefused, wayEnded, wayOf, wayBy, placeOf, Walks}
+use Rattle.walk.specs.declared.Stop.the-variants as stop
+use Rattle.walk.specs.declared.Walked.{Walked}
+use Rattle.walk.specs.Code.{Fits}
+use Rattle.walk.proofs.Noted.{Inside, kind-inside, walk-inside}
+use Rattle.walk.proofs.Standing.{entry-of}
+use Rattle.walk.proofs.Like.{Like, entry-like, entry-inside}
 
-module _ {F : Type 0} (R : Reader) (tally : List Sighting → F) (m : List ℕ) (u : Under) where
-  -- a walk that is refused
-  pub read-refused : (D : Judge) (r : Refused) → wayRefused r ≡ wayOf tally (walk R [] 0 0 (take (u .limit) m)) → readBy R D m u ≡ refused r
-  unfolding readBy finish
-  read-refused D r e = go (walk R [] 0 0 (take (u .limit) m)) e
+module _ (rules : List ℕ) (R : Reader) (same : readerOf rules ≡ R) (m : List ℕ) (u : Under) (w : Walked) (c : List ℕ) (h : Walks rules (take (u .limit) m) w c) where
+  abbrev s : List ℕ
+  s = take (u .limit) m
+
+  says : wayBy (w .place) (w .stop) ≡ wayOf (walk R [] 0 0 s)
+  says = h .says ∙ ap (λ (Q : Reader). wayOf (walk Q [] 0 0 s)) same
+
+  -- the walk's place is that of the record that stopped it
+  pub walk-place : w .place ≡ placeOf (walk R [] 0 0 s)
+  walk-place = go (w .stop) (walk R [] 0 0 s) says
     where
-      go : (o : Outcome) → wayRefused r ≡ wayOf tally o → finish D u m o ≡ refused r
-      go (stopped q) h = cc
-      go (ended at next st) h = let z : _≡_ {A = ℕ} 0 1 = cc in absurd (omega arith)
+      go : (x : _) (o : Outcome) → wayBy (w .place) x ≡ wayOf o → w .place ≡ placeOf o
+      go stop.End (stopped r) e = let z : _≡_ {A = ℕ} 0 1 = cc in absurd (omega arith)
+      go stop.End (ended at next st) e = cc
+      go (stop.Refused q) (stopped r) e = let z : record { number = numberOf q; beside = besideOf q; place = w .place } ≡ r = cc in ap (λ (y : Refused). y .place) z
+      go (stop.Refused q) (ended at next st) e = let z : _≡_ {A = ℕ} 0 1 = cc in absurd (omega arith)
+
+  -- a walk that is refused
+  pub read-refused : (D : Judge) (e : NtsError) → w .stop ≡ stop.Refused e → readBy R D m u ≡ refused (record { number = numberOf e; beside = besideOf e; place = w .place })
+  unfolding readBy finish
+  read-refused D e q = go (walk R [] 0 0 s) (sym (ap (wayBy (w .place)) q) ∙ says)
+    where
+      go : (o : Outcome) → wayRefused (record { number = numberOf e; beside = besideOf e; place = w .place }) ≡ wayOf o → finish D u m o ≡ refused (record { number = numberOf e; beside = besideOf e; place = w .place })
+      go (stopped r) g = cc
+      go (ended at next st) g = let z : _≡_ {A = ℕ} 0 1 = cc in absurd (omega arith)
 
   -- a walk that ends
-  pub record Ended (at : ℕ) (f : F) : Type 0 where
+  pub record Ended : Type 0 where
     pub next : ℕ
     pub state : List Sighting
-    pub walked : walk R [] 0 0 (take (u .limit) m) ≡ ended at next state
-    pub struct : f ≡ tally state
+    pub walked : walk R [] 0 0 s ≡ ended (w .place) next state
 
-  pub walk-ended : (at : ℕ) (f : F) → wayEnded at f ≡ wayOf tally (walk R [] 0 0 (take (u .limit) m)) → Ended at f
-  walk-ended at f e = go (walk R [] 0 0 (take (u .limit) m)) refl e
+  pub walk-ended : w .stop ≡ stop.End → Ended
+  walk-ended q = go (walk R [] 0 0 s) refl (sym (ap (wayBy (w .place)) q) ∙ says)
     where
-      go : (o : Outcome) → walk R [] 0 0 (take (u .limit) m) ≡ o → wayEnded at f ≡ wayOf tally o → Ended at f
-      go (stopped q) z h = let o : _≡_ {A = ℕ} 0 1 = cc in absurd (omega arith)
-      go (ended p next st) z h = let q : at ≡ p = cc in record { next = next; state = st; walked = z ∙ ap (λ (k : ℕ). ended k next st) (sym q); struct = cc }
+      go : (o : Outcome) → walk R [] 0 0 s ≡ o → wayEnded (w .place) ≡ wayOf o → Ended
+      go (stopped r) z g = let o : _≡_ {A = ℕ} 0 1 = cc in absurd (omega arith)
+      go (ended at next st) z g = let p : w .place ≡ at = cc in record { next = next; state = st; walked = z ∙ ap (λ (k : ℕ). ended k next st) (sym p) }
 
-  module _ (at : ℕ) (f : F) (d : Ended at f) where
-    pub read-ended : (D : Judge) → readBy R D m u ≡ placed at (D .decide u (bodyIn m) (λ k. ofKind k (d .state)))
+  module _ (d : Ended) where
+    pub read-ended : (D : Judge) → readBy R D m u ≡ placed (w .place) (D .decide u (bodyIn m) (λ k. ofKind k (d .state)))
     unfolding readBy finish
     read-ended D = rw (d .walked)
 
     -- the bodies noted lie inside the message
     pub ended-inside : Inside (length m) (d .state)
-    ended-inside = walk-inside R [] 0 0 (take (u .limit) m) (length m) at (d .next) (d .state) (simp length-take (omega arith)) tt (d .walked)
+    ended-inside = walk-inside R [] 0 0 s (length m) (w .place) (d .next) (d .state) (simp length-take (omega arith)) tt (d .walked)
+
+    -- the cells of a kind that the table notes
+    ended-entry : (k : ℕ) → k < 15 → known k ≡ true → isNoted (getD rules k 0) ≡ true → entryIn c k ≡ seenOf (ofKind k (d .state))
+    ended-entry = entry-of rules s w c h (w .place) (d .next) (d .state) (ap (λ (Q : Reader). walk Q [] 0 0 s) same ∙ d .walked)
+
+    pub ended-like : (k : ℕ) → k < 15 → known k ≡ true → isNoted (getD rules k 0) ≡ true → Like (toldIn c k) (ofKind k (d .state))
+    ended-like k l kn nt = entry-like c k (d .state) (ended-entry k l kn nt)
+
+  pub ended-fits : w .stop ≡ stop.End → Fits rules (length m) c
+  unfolding Fits
+  ended-fits q k l kn nt = let d = walk-ended q in entry-inside c k (length m) (ofKind k (d .state)) (ended-entry d k l kn nt) (kind-inside (length m) k (d .state) (ended-inside d))
+
+  -- what is told of the decision over the cells is told of the message, where it is the same over lists that are alike
+  pub told-ended : (D : Judge) {T : Type 0} (F : Answer (D .Q) → T)
+      → ((l l′ : ℕ → List Sighting) → ((k : ℕ) → k < 15 → known k ≡ true → isNoted (getD rules k 0) ≡ true → Like (l k) (l′ k))
+      → F (placed (w .place) (D .decide u (bodyIn m) l)) ≡ F (placed (w .place) (D .decide u (bodyIn m) l′)))
+      → w .stop ≡ stop.End → F (placed (w .place) (D .decide u (bodyIn m) (toldIn c))) ≡ F (readBy R D m u)
+  told-ended D F alike q = let d = walk-ended q in alike (toldIn c) (λ k. ofKind k (d .state)) (ended-like d) ∙ ap F (sym (read-ended d D))

@@ -7,8 +7,14 @@ pub mod Laws
 pub mod Known
 pub mod Demand3
 pub mod Noted
-pub mod Loop
-pub mod Meeting
-pub mod Answered
 pub mod Verdicts
 pub mod Written
+pub mod Looking
+pub mod Meeting
+pub mod Standing
+pub mod Going
+pub mod Tables
+pub mod Like
+pub mod Answered
+pub mod Meets
+pub mod Same

@@ -1,72 +1,142 @@
--- One record met by a reader that is a table: which step it is, by what the record reader told of it, and what is noted of each kind then.
+-- One record met: what the code makes of it is the walk's own step, for every table.
 -- Assumes nothing.
 use mathlib.Core.Path.{_≡_, refl, sym, ap, _∙_}
-use mathlib.Core.List.{List, [], _∷_, _++_}
-use mathlib.Core.Bool.{Bool, true, false, cond, _||_}
-use Prim.Native.Nat.{ℕ, _+_}
+use mathlib.Core.List.{List, [], _∷_, _++_, append-nil}
+use mathlib.Core.Bool.{Bool, true, false, cond, _&&_, _||_, true≢false}
+use Prim.Native.Nat.{ℕ, zero, suc, _+_, _<_, _≤_}
 use native.Mathlib.Omega.{arith}
-use lib.Dec.{eqb}
-use Rattle.nts.specs.Refusal.{nothing, Refused}
-use Rattle.layout.specs.declared.Part.{Part}
-use Rattle.record.specs.Record.{kind, critical, size, there, shapeOf, fault, Value, part, valueOf, seenOf}
-use Rattle.record.specs.Told.{toldRecord, kindOfRecord, valueOfRecord}
-use Rattle.record.specs.declared.NtsRecord.{NtsRecord}
-use Rattle.record.proofs.Inverse.{seen-kind, seen-value}
-use Rattle.walk.specs.Walk.{Act, Sighting, stopped, stops, goes, has, meet, judge, step, faultIn, actIn}
+use lib.ListN.{length, getD, set, drop, length-append, length-drop}
+use lib.Seq.{getD-set-same, getD-set-other, length-take-le}
+use lib.Dec.{ltb, leb, eqb}
+use borrow.Author.Tests.{eqb-true, eqb-false, eq-eqb, ne-eqb, lt-ltb, leb-false, le-leb}
+use Rattle.nts.specs.Refusal.{nothing, code, numberOf, besideOf}
+use Rattle.nts.specs.declared.NtsError.{NtsError}
+use Rattle.record.specs.Record.{kind, critical, size, there, shapeOf, fault, Value, number, valueOf, seenOf}
+use Rattle.walk.specs.Walk.{Act, ends, passes, notes, refuses, Sighting, stopped, ended, Step, stops, goes, has, meet, judge, step, faultIn, actIn}
 use Rattle.walk.specs.Judge.{ofKind, some}
-use Rattle.walk.specs.Table.{actBy, tableReader}
-use Rattle.walk.specs.Held.{Met, metOn, metStop, metOf}
-use Rattle.walk.proofs.Noted.{kind-append}
+use Rattle.walk.specs.Table.{known}
+use Rattle.record.proofs.Whole.{there-length}
+use Rattle.walk.proofs.Noted.{sighting}
+use Rattle.walk.specs.Rules.{tellAct, ruleAct, isNoted, actAt, onceAt, readerOf}
+use Rattle.walk.specs.Code.{Asked, atMost, ruledOf, verdictOf}
+use Rattle.walk.specs.Shown.{slotOf}
+use Rattle.walk.proofs.Looking.{Asks}
+use Rattle.walk.specs.declared.Verdict.{Verdict}
+use Rattle.walk.specs.declared.Verdict.the-variants.{On, End, Stop}
 
--- ---- what is noted of a kind
+-- ---- the step
 
-abbrev pub sighting : ℕ → ℕ → ℕ → Sighting
-sighting k at n = record { of = k; start = at + 4; len = n }
+-- where a verdict leads: `more` is what is noted of a record that is passed
+abbrev pub stepOf : ℕ → ℕ → List Sighting → List Sighting → Verdict → Step
+stepOf at n st more On = goes (st ++ more)
+stepOf at n st more End = stops (ended at (at + (4 + n)) st)
+stepOf at n st more (Stop e) = stops (stopped (record { number = numberOf e; beside = besideOf e; place = at }))
 
-pub kind-more : (j : ℕ) (st : List Sighting) (x : Sighting) → ofKind j (st ++ (x ∷ [])) ≡ ofKind j st ++ cond (eqb (x .of) j) (x ∷ []) []
-kind-more j st x = kind-append j st (x ∷ [])
+-- what a table notes of a record that is passed
+unfoldable pub moreOf : List ℕ → ℕ → ℕ → ℕ → List Sighting
+moreOf rules at k n = cond (known k && isNoted (getD rules k 0)) (sighting k at n ∷ []) []
 
-pub has-some : (k : ℕ) (st : List Sighting) → has k st ≡ some (ofKind k st)
-unfolding has
-has-some k [] = refl
-has-some k (x ∷ st) = go (eqb (x .of) k) (has-some k st)
-  where
-    go : (b : Bool) → has k st ≡ some (ofKind k st) → (b || has k st) ≡ some (cond b (x ∷ ofKind k st) (ofKind k st))
-    go true h = refl
-    go false h = h
+once-step : (b : Bool) (at n : ℕ) (st more : List Sighting) → cond b (stops (stopped (record { number = 4; beside = nothing; place = at }))) (goes (st ++ more)) ≡ stepOf at n st more (cond b (Stop NtsError.Invalid) On)
+once-step true at n st more = refl
+once-step false at n st more = refl
 
-pub some-none : (l : List Sighting) → some l ≡ false → l ≡ []
-some-none [] e = refl
-some-none (x ∷ l) e = let o : _≡_ {A = ℕ} 0 1 = cc in absurd (omega arith)
+module _ (rules : List ℕ) (st : List Sighting) (at k n before : ℕ) (b : List ℕ) (told : NtsError) (kn : known k ≡ true)
+    (tells : getD rules k 0 ≡ 5 → tellAct k b ≡ refuses (numberOf told) (besideOf told)) (whole : length b ≡ n)
+    (same : isNoted (getD rules k 0) ≡ true → has k st ≡ ltb 0 before) where
+  by-rule : (r : ℕ) → getD rules k 0 ≡ r → meet (readerOf rules) st at k n (ruleAct r k b) ≡ stepOf at n st (moreOf rules at k n) (ruledOf r before n told)
+  unfolding meet ruleAct ruledOf isNoted onceAt moreOf atMost
+  by-rule zero e = refl
+  by-rule (suc zero) e = rw (kn, e, append-nil st)
+  by-rule (suc (suc zero)) e = rw (kn, e)
+  by-rule (suc (suc (suc zero))) e = rw (kn, e, same (ap isNoted e)) (once-step (ltb 0 before) at n st (sighting k at n ∷ []))
+  by-rule (suc (suc (suc (suc zero)))) e = rw (whole) (go (ltb 2 n))
+    where
+      long : (w : Bool) → stops (stopped (record { number = 4; beside = nothing; place = at })) ≡ stepOf at n st (moreOf rules at k n) (cond w (Stop NtsError.Invalid) (Stop NtsError.Invalid))
+      long true = refl
+      long false = refl
 
-pub some-more : (l : List Sighting) (x : Sighting) → some (l ++ (x ∷ [])) ≡ true
-some-more [] x = refl
-some-more (y ∷ l) x = refl
+      fits : (w : Bool) → eqb before 0 ≡ w → cond (ltb 0 before) (stops (stopped (record { number = 4; beside = nothing; place = at }))) (goes (st ++ (sighting k at n ∷ []))) ≡ stepOf at n st (sighting k at n ∷ []) (cond w On (Stop NtsError.Invalid))
+      fits true z = rw (eqb-true before 0 z)
+      fits false z = let h = eqb-false before 0 z in rw (lt-ltb 0 before (omega arith))
 
--- a record of a kind that may stand once: what is there decides
-pub noted-once : {F : Type 0} (tally : List Sighting → F) (st : List Sighting) (at k n : ℕ) (b : Bool) (h : F) → some (ofKind k st) ≡ b
-    → (ofKind k st ≡ [] → tally (st ++ (sighting k at n ∷ [])) ≡ h)
-    → metOf tally (cond (has k st) (stops (stopped (record { number = 4; beside = nothing; place = at }))) (goes (st ++ (sighting k at n ∷ []))))
-    ≡ cond b (metStop (record { number = 4; beside = nothing; place = at })) (metOn h)
-noted-once tally st at k n true h e i = rw (has-some k st, e)
-noted-once tally st at k n false h e i = rw (has-some k st, e) (ap metOn (i (some-none (ofKind k st) e)))
+      go : (w : Bool) → meet (readerOf rules) st at k n (cond w (refuses 4 nothing) notes) ≡ stepOf at n st (moreOf rules at k n) (cond (eqb before 0) (cond w (Stop NtsError.Invalid) On) (Stop NtsError.Invalid))
+      go true = long (eqb before 0)
+      go false = rw (kn, e, same (ap isNoted e)) (fits (eqb before 0) refl)
+  by-rule (suc (suc (suc (suc (suc zero))))) e = rw (tells e)
+  by-rule (suc (suc (suc (suc (suc (suc r)))))) e =
+      let no : (j : ℕ) → j ≤ 5 → eqb (suc (suc (suc (suc (suc (suc r)))))) j ≡ false = λ j h. ne-eqb _ j (λ q. omega arith) in
+      simp (no 0 (omega arith), no 1 (omega arith), no 2 (omega arith), no 3 (omega arith), no 4 (omega arith), no 5 (omega arith))
 
--- ---- what the record reader told
+pub not-eleven : (k : ℕ) → known k ≡ true → eqb k 11 ≡ false
+unfolding known
+not-eleven k h = ne-eqb k 11 (λ e. true≢false (sym h ∙ ap known e))
 
-pub same-part : (p : Part) (a n : ℕ) → part (p .start) (p .len) ≡ part a n → p ≡ record { start = a; len = n }
-same-part p a n e =
-    let s : p .start ≡ a = cc in
-    let l : p .len ≡ n = cc in
-    λ i. record { start = s i; len = l i }
+verdict-known : (r : ℕ) (x : Asked) (k before n : ℕ) → x .slot ≡ k → eqb k 11 ≡ false → verdictOf r x before n ≡ ruledOf r before n (x .told)
+unfolding verdictOf
+verdict-known r x k before n e h = rw (e, h)
 
-module _ (at : ℕ) (t : List ℕ) (item : NtsRecord) (e : toldRecord item ≡ seenOf (kind t) (critical t) (at + 4) (size t) (there t)) where
-  pub kind-is : kind t ≡ kindOfRecord item
-  kind-is = seen-kind (kind t) (critical t) (at + 4) (size t) (there t) (kindOfRecord item) (valueOfRecord item) e
+pub verdict-unknown : (r : ℕ) (x : Asked) (bit : Bool) (before n : ℕ) → x .slot ≡ 11 → x .critical ≡ bit → verdictOf r x before n ≡ cond bit (Stop NtsError.UnrecognizedCriticalRecord) On
+unfolding verdictOf
+verdict-unknown r x bit before n e h = rw (e, h)
 
-  pub value-of : valueOfRecord item ≡ valueOf (shapeOf (kindOfRecord item)) (critical t) (at + 4) (size t) (there t)
-  value-of = seen-value (kind t) (critical t) (at + 4) (size t) (there t) (kindOfRecord item) (valueOfRecord item) e
-
-  pub step-by : (f : ℕ → List ℕ → Act) (once : ℕ → Bool) (st : List Sighting) → fault t ≡ 0
-      → step (tableReader f once) st at t ≡ meet (tableReader f once) st at (kindOfRecord item) (size t) (actBy f (kindOfRecord item) (critical t) (there t))
+module _ (rules : List ℕ) (at : ℕ) (t : List ℕ) (z : fault t ≡ 0) (x : Asked) (l : Asks rules x t) where
+  step-by : (st : List Sighting) → step (readerOf rules) st at t ≡ meet (readerOf rules) st at (kind t) (size t) (actAt rules (kind t) (critical t) (there t))
   unfolding step judge faultIn actIn fault
-  step-by f once st z = rw (z, kind-is)
+  step-by st = rw z
+
+  -- the walk's step, by what the code decides
+  pub step-is : (st : List Sighting) (before : ℕ) → (known (kind t) ≡ true → isNoted (getD rules (kind t) 0) ≡ true → has (kind t) st ≡ ltb 0 before)
+      → step (readerOf rules) st at t ≡ stepOf at (size t) st (moreOf rules at (kind t) (size t)) (verdictOf (getD rules (x .slot) 0) x before (size t))
+  unfolding actAt slotOf moreOf meet
+  step-is st before same = step-by st ∙ go (known (kind t)) refl
+    where
+      unknown-step : (b : Bool) → meet (readerOf rules) st at (kind t) (size t) (cond b (refuses 3 nothing) passes) ≡ stepOf at (size t) st [] (cond b (Stop NtsError.UnrecognizedCriticalRecord) On)
+      unknown-step true = refl
+      unknown-step false = rw (append-nil st)
+
+      go : (kn : Bool) → known (kind t) ≡ kn → meet (readerOf rules) st at (kind t) (size t) (cond kn (ruleAct (getD rules (kind t) 0) (kind t) (there t)) (cond (critical t) (refuses 3 nothing) passes))
+          ≡ stepOf at (size t) st (moreOf rules at (kind t) (size t)) (verdictOf (getD rules (x .slot) 0) x before (size t))
+      go true h =
+          let i : x .slot ≡ kind t = l .slot ∙ ap (λ (b : Bool). cond b (kind t) 11) h in
+          by-rule rules st at (kind t) (size t) before (there t) (x .told) h (λ r. l .tells h) (there-length t z) (same h) (getD rules (kind t) 0) refl
+          ∙ ap (stepOf at (size t) st (moreOf rules at (kind t) (size t)))
+          (sym (verdict-known (getD rules (x .slot) 0) x (kind t) before (size t) i (not-eleven (kind t) h) ∙ ap (λ (j : ℕ). ruledOf (getD rules j 0) before (size t) (x .told)) i))
+      go false h =
+          rw (h) (unknown-step (critical t))
+          ∙ ap (stepOf at (size t) st (moreOf rules at (kind t) (size t)))
+          (sym (verdict-unknown (getD rules (x .slot) 0) x (critical t) before (size t) (l .slot ∙ ap (λ (b : Bool). cond b (kind t) 11) h) (l .bit)))
+
+-- a record that ends the walk is of a kind that is not noted
+at-most-on : (n limit : ℕ) → (atMost n limit ≡ End → ⊥)
+unfolding atMost
+at-most-on n limit = go (ltb limit n)
+  where
+    go : (b : Bool) → cond b (Stop NtsError.Invalid) On ≡ End → ⊥
+    go true q = let z : _≡_ {A = ℕ} 0 1 = cc in omega arith
+    go false q = let z : _≡_ {A = ℕ} 0 1 = cc in omega arith
+
+ruled-end : (r before n : ℕ) (told : NtsError) → ruledOf r before n told ≡ End → isNoted r ≡ false
+unfolding ruledOf isNoted
+ruled-end zero before n told q = refl
+ruled-end (suc zero) before n told q = refl
+ruled-end (suc (suc zero)) before n told q = let z : _≡_ {A = ℕ} 0 1 = cc in absurd (omega arith)
+ruled-end (suc (suc (suc zero))) before n told q = absurd (at-most-on before 0 q)
+ruled-end (suc (suc (suc (suc zero)))) before n told q = absurd (go (eqb before 0) q)
+  where
+    go : (b : Bool) → cond b (atMost n 2) (Stop NtsError.Invalid) ≡ End → ⊥
+    go true p = at-most-on n 2 p
+    go false p = let z : _≡_ {A = ℕ} 0 1 = cc in omega arith
+ruled-end (suc (suc (suc (suc (suc r))))) before n told q =
+    let other : (j : ℕ) → j ≤ 4 → eqb (suc (suc (suc (suc (suc r))))) j ≡ false = λ j h. ne-eqb _ j (λ p. omega arith) in
+    simp (other 2 (omega arith), other 3 (omega arith), other 4 (omega arith))
+
+pub end-unnoted : (rules : List ℕ) (at before : ℕ) (t : List ℕ) (x : Asked) → Asks rules x t → verdictOf (getD rules (x .slot) 0) x before (size t) ≡ End → moreOf rules at (kind t) (size t) ≡ []
+unfolding moreOf slotOf
+end-unnoted rules at before t x l q = go (known (kind t)) refl
+  where
+    go : (kn : Bool) → known (kind t) ≡ kn → cond (kn && isNoted (getD rules (kind t) 0)) (sighting (kind t) at (size t) ∷ []) [] ≡ []
+    go true h =
+        let i : x .slot ≡ kind t = l .slot ∙ ap (λ (b : Bool). cond b (kind t) 11) h in
+        let v = verdict-known (getD rules (x .slot) 0) x (kind t) before (size t) i (not-eleven (kind t) h) ∙ ap (λ (j : ℕ). ruledOf (getD rules j 0) before (size t) (x .told)) i in
+        rw (ruled-end (getD rules (kind t) 0) before (size t) (x .told) (sym v ∙ q))
+    go false h = refl

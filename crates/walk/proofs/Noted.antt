@@ -2,7 +2,7 @@
 -- Assumes nothing.
 use mathlib.Core.Path.{_≡_, refl, sym, ap, _∙_}
 use mathlib.Core.List.{List, [], _∷_, _++_, append-assoc, append-nil}
-use mathlib.Core.Bool.{Bool, true, false, cond, _&&_}
+use mathlib.Core.Bool.{Bool, true, false, cond, _&&_, _||_}
 use Prim.Native.Nat.{ℕ, zero, suc, _+_, _-_, _≤_}
 use native.Mathlib.Omega.{arith}
 use lib.ListN.{length, length-append}
@@ -11,7 +11,7 @@ use lib.Dec.{eqb}
 use Rattle.nts.specs.Refusal.{nothing, Refused}
 use Rattle.record.specs.Record.{kind, size}
 use Rattle.walk.specs.Walk.{Act, ends, passes, notes, refuses, Reader, Sighting, Outcome, stopped, ended, Step, stops, goes, has, meet, judge, step, faultIn, actIn, walk}
-use Rattle.walk.specs.Judge.{ofKind}
+use Rattle.walk.specs.Judge.{ofKind, some}
 use Rattle.walk.proofs.Faultless.{faultless-whole}
 
 -- a record at a place, as it is noted
@@ -130,3 +130,20 @@ kind-inside N k (x ∷ l) h = go (eqb (x .of) k) (kind-inside N k l (h .1))
     go : (t : Bool) → Inside N (ofKind k l) → Inside N (cond t (x ∷ ofKind k l) (ofKind k l))
     go true i = (h .0, i)
     go false i = i
+
+-- ---- one record more
+
+abbrev pub sighting : ℕ → ℕ → ℕ → Sighting
+sighting k at n = record { of = k; start = at + 4; len = n }
+
+pub kind-more : (j : ℕ) (st : List Sighting) (x : Sighting) → ofKind j (st ++ (x ∷ [])) ≡ ofKind j st ++ cond (eqb (x .of) j) (x ∷ []) []
+kind-more j st x = kind-append j st (x ∷ [])
+
+pub has-some : (k : ℕ) (st : List Sighting) → has k st ≡ some (ofKind k st)
+unfolding has
+has-some k [] = refl
+has-some k (x ∷ st) = go (eqb (x .of) k) (has-some k st)
+  where
+    go : (b : Bool) → has k st ≡ some (ofKind k st) → (b || has k st) ≡ some (cond b (x ∷ ofKind k st) (ofKind k st))
+    go true h = refl
+    go false h = h

@@ -1,1 +1,314 @@
-// The walk over a message, defined once for every reader: definitions in specs/, what holds for every reader in proofs/.
+// The walk over a message, one loop for every reader: a reader is a table that says by kind what is done with a record. Definitions that are the
+// same for every reader stand in specs/, what holds for every reader in proofs/.
+use nts::ErrorCode;
+use nts::NtsError;
+use nts::WarningCode;
+use record::Looked;
+use record::NtsRecord;
+use record::Part;
+ghost use mathlib.Core.Path.{_≡_};
+ghost use Prim.Native.Nat.{_+_, _<_, _≤_, _^_};
+ghost use lib.ListN.{length, take};
+ghost use Rattle.wire.specs.Bytes.{numberAt};
+ghost use Rattle.walk.specs.Judge.{some};
+ghost use Rattle.walk.specs.Shown.{slotOf};
+ghost use Rattle.walk.specs.Found.{entryIn, toldIn, Walks};
+ghost use Rattle.walk.specs.Code.{errorOf, asked, atMost, ruledOf, unknownOf, verdictOf, moreIn, Met, Few, lookedOf, Steps};
+
+// What a table's entry says of a record of its kind: it ends the message; it is passed over; it is noted; it is noted, and a second one is refused
+// with 4; the same, with at most one entry; it is refused with 11 or 12 and its code; it is refused with 4, as by any other number.
+pub const ENDING: u8 = 0;
+
+pub const PASSED: u8 = 1;
+
+pub const NOTED: u8 = 2;
+
+pub const ONCE: u8 = 3;
+
+pub const SINGLE: u8 = 4;
+
+pub const TOLD: u8 = 5;
+
+pub const REFUSED: u8 = 6;
+
+// How many kinds have an entry: those up to 14. Unknown kinds are not asked of the table, and count under the one number below that no kind has.
+const KINDS: usize = 15;
+
+const UNKNOWN: usize = 11;
+
+// The bytes of one entry of a list.
+const ENTRY: u16 = 2;
+
+// The records of one kind that were met: how many, and where the first one's body lies.
+pub struct Seen {
+    pub count: u16,
+    pub start: u16,
+    pub len: u16,
+}
+
+impl Seen {
+    // The first one's body.
+    pub fn body(self) -> Part
+        ensures { λ r. ⌜ r ≡ record { start = self .start; len = self .len } ⌝ }
+    {
+        Part {
+            start: self.start as usize,
+            len: self.len as usize,
+        }
+    }
+}
+
+pub enum Stop {
+    End,
+    Refused(NtsError),
+}
+
+// A walk that has stopped: the place of the record that stopped it, and why.
+pub struct Walked {
+    pub place: usize,
+    pub stop: Stop,
+}
+
+// What one record does to a walk.
+pub enum Verdict {
+    On,
+    End,
+    Stop(NtsError),
+}
+
+// One step: the verdict, and where it lets the walk go on the place after the record.
+pub struct Stepped {
+    pub verdict: Verdict,
+    pub next: usize,
+}
+
+// The bytes of a message that a limit leaves.
+pub fn cut_at(message: &[u8], limit: u16) -> &[u8]
+    ensures { λ r. ⌜ now r ≡ take limit (now (message .entry)) ⌝ }
+{
+    let n = limit as usize;
+    if n < message.len() {
+        return &message[0..n];
+    }
+    &message[0..]
+}
+
+// The walk by a table over a message as if it were cut after `limit` bytes: record after record, until one is refused or the first that ends it.
+// What it found goes into the cells, three a kind: count, and start and length of the first body. A record that is refused counts; one that does
+// not read does not.
+pub fn walk(rules: &[u8; 15], message: &[u8], limit: u16, cells: &mut [u16; 45]) -> Walked
+    ensures { λ r. ⌜ Walks (now (rules .entry)) (take limit (now (message .entry))) r (now (cells .exit)) ⌝ }
+{
+    let cut = cut_at(message, limit);
+    walk_cut(rules, cut, cells)
+}
+
+// What a walk found of a kind, or of all unknown ones.
+pub fn found(cells: &[u16; 45], kind: u16) -> Seen
+    ensures { λ r. ⌜ r ≡ entryIn (now (cells .entry)) (slotOf kind) ⌝ }
+{
+    let c = slot_of(kind) * 3;
+    let d = c + 1;
+    let e = c + 2;
+    Seen {
+        count: cells[c],
+        start: cells[d],
+        len: cells[e],
+    }
+}
+
+// Whether a walk met a record of a kind.
+pub fn is_there(cells: &[u16; 45], kind: u16) -> bool
+    ensures { λ r. ⌜ r ≡ some (toldIn (now (cells .entry)) (slotOf kind)) ⌝ }
+{
+    if found(cells, kind).count == 0 {
+        return false;
+    }
+    true
+}
+
+fn walk_cut(rules: &[u8; 15], cut: &[u8], cells: &mut [u16; 45]) -> Walked
+    requires { ⌜ length (now cut) < 2 ^ 16 ⌝ }
+    ensures { λ r. ⌜ Walks (now (rules .entry)) (now (cut .entry)) r (now (cells .exit)) ⌝ }
+{
+    let mut at: usize = 0;
+    *cells = [0u16; 45];
+    loop {
+        let stepped = step(rules, cut, at, cells);
+        let verdict = stepped.verdict;
+        match verdict {
+            Verdict::On => {
+                at = stepped.next;
+            }
+            Verdict::End => {
+                return Walked {
+                    place: at,
+                    stop: Stop::End,
+                };
+            }
+            Verdict::Stop(error) => {
+                return Walked {
+                    place: at,
+                    stop: Stop::Refused(error),
+                };
+            }
+        }
+    }
+}
+
+// One record: a look at it, and what the table says of it.
+fn step(rules: &[u8; 15], cut: &[u8], at: usize, cells: &mut [u16; 45]) -> Stepped
+    requires { ⌜ (length (now cut) < 2 ^ 16) × Few (now cells) at ⌝ }
+    ensures { λ r. ⌜ Steps (now (rules .entry)) (now (cut .entry)) at (now (cells .entry)) r (now (cells .exit)) ⌝ }
+{
+    let answer = record::look(cut, at);
+    let Looked::Whole(x) = answer else {
+        return Stepped {
+            verdict: by_look(answer),
+            next: at,
+        };
+    };
+    let start = at + NtsRecord::HEADER;
+    let slot = slot_of(x.kind);
+    let verdict = meet(cells, rules[slot], slot, x.critical, cut, start, x.size);
+    Stepped {
+        verdict,
+        next: start + x.size as usize,
+    }
+}
+
+// What a look alone says: a record that does not read stops the walk, one that does lets it go on.
+fn by_look(answer: Looked) -> Verdict
+    ensures { λ r. ⌜ r ≡ lookedOf answer ⌝ }
+{
+    match answer {
+        Looked::Whole(_) => Verdict::On,
+        Looked::Refused(refusal) => {
+            let error = refusal.error;
+            Verdict::Stop(error)
+        }
+    }
+}
+
+// Where a kind stands in the table and in the cells.
+fn slot_of(kind: u16) -> usize
+    ensures { λ r. ⌜ r ≡ slotOf kind ⌝ }
+{
+    let slot = kind as usize;
+    if slot < KINDS {
+        return slot;
+    }
+    UNKNOWN
+}
+
+// One record met, by its kind's entry: it is counted, also where it is refused.
+fn meet(
+    cells: &mut [u16; 45],
+    rule: u8,
+    slot: usize,
+    critical: bool,
+    cut: &[u8],
+    start: usize,
+    size: u16,
+) -> Verdict
+    requires { ⌜ (slot < 15) × (start < 2 ^ 16) × (entryIn (now cells) slot .count + 1 < 2 ^ 16) ⌝ }
+    ensures { λ r. ⌜ Met rule (asked (now (cut .entry)) slot critical start) slot start size (now (cells .entry)) r (now (cells .exit)) ⌝ }
+{
+    let c = slot * 3;
+    let verdict = judged(rule, slot, critical, cells[c], cut, start, size);
+    count_more(cells, slot, start as u16, size);
+    verdict
+}
+
+// One record of a kind more: of the first, where its body lies.
+fn count_more(cells: &mut [u16; 45], slot: usize, start: u16, len: u16)
+    requires { ⌜ (slot < 15) × (entryIn (now cells) slot .count + 1 < 2 ^ 16) ⌝ }
+    ensures { λ _. ⌜ now (cells .exit) ≡ moreIn (now (cells .entry)) slot start len ⌝ }
+{
+    let c = slot * 3;
+    let before = cells[c];
+    cells[c] = before + 1;
+    if before == 0 {
+        let d = c + 1;
+        let e = c + 2;
+        cells[d] = start;
+        cells[e] = len;
+    }
+}
+
+// An unknown kind is not asked of the table. What is noted however often it stands comes first, since there may be many.
+fn judged(
+    rule: u8,
+    slot: usize,
+    critical: bool,
+    before: u16,
+    cut: &[u8],
+    start: usize,
+    size: u16,
+) -> Verdict
+    ensures { λ r. ⌜ r ≡ verdictOf rule (asked (now (cut .entry)) slot critical start) before size ⌝ }
+{
+    if rule == NOTED {
+        return unless_unknown(slot, critical);
+    }
+    if slot == UNKNOWN {
+        return unless_unknown(slot, critical);
+    }
+    ruled(rule, slot, before, cut, start, size)
+}
+
+// The walk goes on, unless the record is of an unknown kind and has its critical bit set.
+fn unless_unknown(slot: usize, critical: bool) -> Verdict
+    ensures { λ r. ⌜ r ≡ unknownOf slot critical ⌝ }
+{
+    if slot == UNKNOWN {
+        if critical {
+            return Verdict::Stop(NtsError::UnrecognizedCriticalRecord);
+        }
+        return Verdict::On;
+    }
+    Verdict::On
+}
+
+// What the table's entry makes of a record of a known kind, of which so many were met before.
+fn ruled(rule: u8, slot: usize, before: u16, cut: &[u8], start: usize, size: u16) -> Verdict
+    ensures { λ r. ⌜ r ≡ ruledOf rule before size (errorOf slot (numberAt (now (cut .entry)) start)) ⌝ }
+{
+    match rule {
+        ENDING => Verdict::End,
+        PASSED => Verdict::On,
+        NOTED => Verdict::On,
+        ONCE => at_most(before, 0),
+        SINGLE => {
+            if before == 0 {
+                return at_most(size, ENTRY);
+            }
+            Verdict::Stop(NtsError::Invalid)
+        }
+        TOLD => {
+            let error = told(slot, wire::number_at(cut, start));
+            Verdict::Stop(error)
+        }
+        _ => Verdict::Stop(NtsError::Invalid),
+    }
+}
+
+fn at_most(count: u16, limit: u16) -> Verdict
+    ensures { λ r. ⌜ r ≡ atMost count limit ⌝ }
+{
+    if limit < count {
+        return Verdict::Stop(NtsError::Invalid);
+    }
+    Verdict::On
+}
+
+// What a record is refused with that is told with its code.
+fn told(slot: usize, code: u16) -> NtsError
+    ensures { λ r. ⌜ r ≡ errorOf slot code ⌝ }
+{
+    match slot {
+        2 => NtsError::Error(ErrorCode(code)),
+        3 => NtsError::UnknownWarning(WarningCode(code)),
+        _ => NtsError::Invalid,
+    }
+}

@@ -1,27 +1,23 @@
 -- `reply::accepted` meets its contract: field by field.
 -- Assumes nothing.
+use mathlib.Core.Path.{ap, _∙_}
+use denote.Ref.{now}
+use Rattle.walk.specs.Table.{known}
+use Rattle.walk.specs.Shown.{slotOf}
+use Rattle.walk.specs.declared.Seen.{Seen}
+use Rattle.reply.specs.Code.{numberIn, sentIn, acceptedIn}
 use borrow.Author.Needs.{needs}
-use Rattle.reply.specs.State.{acceptedIn}
 use Rattle.reply.proofs.accepted.Statement.{statement}
 use Rattle.reply.proofs.accepted.Tie as tie
 
-number-in-requires : tie.Need-number-in-requires
-number-in-requires c κs = search needs
-
-number-in-requires-2 : tie.Need-number-in-requires-2
-number-in-requires-2 c κs = search needs
-
-server-of-requires : tie.Need-server-of-requires
-server-of-requires c κs = search needs
-
-port-of-requires : tie.Need-port-of-requires
-port-of-requires c κs = search needs
-
 returns : tie.Need-returns
-unfolding acceptedIn
-returns c = cc (c .before .before .before .number-in .ensures, c .before .before .number-in2 .ensures, c .before .server-of .ensures, c .port-of .ensures)
+unfolding acceptedIn slotOf known
+returns c =
+    let server = c .before .before .before .server-of .ensures ∙ ap (λ (x : Seen). sentIn x (record { start = x .start; len = x .len })) (c .before .before .before .before .found .ensures) in
+    let port = c .before .port-of .ensures ∙ ap (λ (x : Seen). sentIn x (numberIn (now (c .before .before .before .before .before .before .before .before .args .message)) x)) (c .before .before .found2 .ensures) in
+    cc (c .before .before .before .before .before .before .number-in .ensures, c .before .before .before .before .before .number-in2 .ensures, server, port, c .is-there .ensures)
 
 pub accepted-spec : {M : Type 1} → statement M
 accepted-spec =
     tie.close
-    (tie.spec number-in-requires number-in-requires-2 server-of-requires port-of-requires returns)
+    (tie.spec (λ c κs. search needs) (λ c κs. search needs) (λ c κs. search needs) (λ c κs. search needs) (λ c κs. search needs) (λ c κs. search needs) (λ c κs. search needs) returns)

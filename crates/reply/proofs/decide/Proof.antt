@@ -1,42 +1,87 @@
 -- `reply::decide` meets its contract: the tests are the definition's, in its order.
 -- Assumes nothing.
-use borrow.Author.Needs.{needs}
-use mathlib.Core.Path.{ap, _∙_}
-use Rattle.reply.specs.Reply.{toldAnswer}
+use mathlib.Core.Path.{refl, ap, _∙_}
+use borrow.Author.Tests.{eq-eqb, ne-eqb, lt-ltb, le-ltb}
+use Rattle.walk.specs.Table.{known}
+use Rattle.walk.specs.Shown.{slotOf}
+use Rattle.walk.specs.declared.Seen.{Seen}
 use Rattle.walk.proofs.Verdicts.{taken, left}
-use borrow.Author.Tests.{eq-eqb, ne-eqb}
-use Rattle.reply.specs.State.{decidedIn}
+use Rattle.reply.specs.Reply.{toldAnswer}
+use Rattle.reply.proofs.Decided.{decided-is}
+use borrow.Author.Needs.{needs}
 use Rattle.reply.proofs.decide.Statement.{statement}
 use Rattle.reply.proofs.decide.Tie as tie
 
-refused-requires : tie.Need-refused-requires
-refused-requires c κs = search needs
-
 returns : tie.Need-returns
-unfolding decidedIn
-returns c = ap toldAnswer (c .refused .ensures) ∙ taken _ _ _ (eq-eqb _ _ (c .before .if2 .taken)) ∙ taken _ _ _ (c .before .before .before .if1 .taken)
-
-decide-algorithm-requires : tie.Need-decide-algorithm-requires
-decide-algorithm-requires c κs = search needs
+unfolding slotOf known
+returns c =
+    ap toldAnswer (c .refused .ensures)
+    ∙ taken _ _ _ (eq-eqb _ _ (c .before .if1 .taken))
+    ∙ decided-is _ _ _ _ (c .before .before .before .before .before .pre) _ _ _ (c .before .before .before .found .ensures) refl refl
 
 returns-2 : tie.Need-returns-2
-unfolding decidedIn
-returns-2 c = c .decide-algorithm .ensures ∙ left _ _ _ (ne-eqb _ _ (c .before .if2 .left)) ∙ taken _ _ _ (c .before .before .before .if1 .taken)
-
-refused-requires-2 : tie.Need-refused-requires-2
-refused-requires-2 c κs = search needs
+unfolding slotOf known
+returns-2 c =
+    ap toldAnswer (c .refused2 .ensures)
+    ∙ taken _ _ _ (eq-eqb _ _ (c .before .if2 .taken))
+    ∙ left _ _ _ (ne-eqb _ _ (c .before .before .before .if1 .left))
+    ∙ decided-is _ _ _ _ (c .before .before .before .before .before .before .before .pre) _ _ _ (c .before .before .before .before .before .found .ensures) refl refl
 
 returns-3 : tie.Need-returns-3
-unfolding decidedIn
-returns-3 c = ap toldAnswer (c .refused2 .ensures) ∙ left _ _ _ (c .before .if1 .left)
+unfolding slotOf known
+returns-3 c =
+    ap toldAnswer (c .refused3 .ensures)
+    ∙ taken _ _ _ (eq-eqb _ _ (c .before .if3 .taken))
+    ∙ left _ _ _ (ne-eqb _ _ (c .before .before .before .before .if2 .left))
+    ∙ left _ _ _ (ne-eqb _ _ (c .before .before .before .before .before .before .if1 .left))
+    ∙ decided-is _ _ _ _ (c .before .before .before .before .before .before .before .before .before .before .pre) _ _ _ (c .before .before .before .before .before .before .before .before .found .ensures) (c .before .before .before .found2 .ensures) refl
+
+returns-4 : tie.Need-returns-4
+unfolding slotOf known
+returns-4 c =
+    ap toldAnswer (c .refused4 .ensures)
+    ∙ taken _ _ _ (eq-eqb _ _ (c .before .if4 .taken))
+    ∙ left _ _ _ (ne-eqb _ _ (c .before .before .before .if3 .left))
+    ∙ left _ _ _ (ne-eqb _ _ (c .before .before .before .before .before .before .if2 .left))
+    ∙ left _ _ _ (ne-eqb _ _ (c .before .before .before .before .before .before .before .before .if1 .left))
+    ∙ decided-is _ _ _ _ (c .before .before .before .before .before .before .before .before .before .before .before .before .pre) _ _ _ (c .before .before .before .before .before .before .before .before .before .before .found .ensures) (c .before .before .before .before .before .found2 .ensures) refl
+
+returns-5 : tie.Need-returns-5
+unfolding slotOf known
+returns-5 c =
+    ap toldAnswer (c .refused5 .ensures)
+    ∙ taken _ _ _ (eq-eqb _ _ (c .before .if5 .taken))
+    ∙ left _ _ _ (ne-eqb _ _ (c .before .before .before .before .if4 .left))
+    ∙ left _ _ _ (ne-eqb _ _ (c .before .before .before .before .before .before .if3 .left))
+    ∙ left _ _ _ (ne-eqb _ _ (c .before .before .before .before .before .before .before .before .before .if2 .left))
+    ∙ left _ _ _ (ne-eqb _ _ (c .before .before .before .before .before .before .before .before .before .before .before .if1 .left))
+    ∙ decided-is _ _ _ _ (c .before .before .before .before .before .before .before .before .before .before .before .before .before .before .before .pre) _ _ _ (c .before .before .before .before .before .before .before .before .before .before .before .before .before .found .ensures) (c .before .before .before .before .before .before .before .before .found2 .ensures) (ap (λ (x : Seen). x .count) (c .before .before .before .found3 .ensures))
+
+returns-6 : tie.Need-returns-6
+unfolding slotOf known
+returns-6 c =
+    ap toldAnswer (c .refused6 .ensures)
+    ∙ taken _ _ _ (lt-ltb _ _ (c .before .if6 .taken))
+    ∙ left _ _ _ (ne-eqb _ _ (c .before .before .if5 .left))
+    ∙ left _ _ _ (ne-eqb _ _ (c .before .before .before .before .before .if4 .left))
+    ∙ left _ _ _ (ne-eqb _ _ (c .before .before .before .before .before .before .before .if3 .left))
+    ∙ left _ _ _ (ne-eqb _ _ (c .before .before .before .before .before .before .before .before .before .before .if2 .left))
+    ∙ left _ _ _ (ne-eqb _ _ (c .before .before .before .before .before .before .before .before .before .before .before .before .if1 .left))
+    ∙ decided-is _ _ _ _ (c .before .before .before .before .before .before .before .before .before .before .before .before .before .before .before .before .pre) _ _ _ (c .before .before .before .before .before .before .before .before .before .before .before .before .before .before .found .ensures) (c .before .before .before .before .before .before .before .before .before .found2 .ensures) (ap (λ (x : Seen). x .count) (c .before .before .before .before .found3 .ensures))
+
+returns-7 : tie.Need-returns-7
+unfolding slotOf known
+returns-7 c =
+    c .accepted .ensures
+    ∙ left _ _ _ (le-ltb _ _ (c .before .if6 .left))
+    ∙ left _ _ _ (ne-eqb _ _ (c .before .before .if5 .left))
+    ∙ left _ _ _ (ne-eqb _ _ (c .before .before .before .before .before .if4 .left))
+    ∙ left _ _ _ (ne-eqb _ _ (c .before .before .before .before .before .before .before .if3 .left))
+    ∙ left _ _ _ (ne-eqb _ _ (c .before .before .before .before .before .before .before .before .before .before .if2 .left))
+    ∙ left _ _ _ (ne-eqb _ _ (c .before .before .before .before .before .before .before .before .before .before .before .before .if1 .left))
+    ∙ decided-is _ _ _ _ (c .before .before .before .before .before .before .before .before .before .before .before .before .before .before .before .before .pre) _ _ _ (c .before .before .before .before .before .before .before .before .before .before .before .before .before .before .found .ensures) (c .before .before .before .before .before .before .before .before .before .found2 .ensures) (ap (λ (x : Seen). x .count) (c .before .before .before .before .found3 .ensures))
 
 pub decide-spec : {M : Type 1} → statement M
 decide-spec =
     tie.close
-    (tie.spec
-    refused-requires
-    returns
-    decide-algorithm-requires
-    returns-2
-    refused-requires-2
-    returns-3)
+    (tie.spec (λ c κs. search needs) (λ c κs. search needs) returns (λ c κs. search needs) returns-2 (λ c κs. search needs) (λ c κs. search needs) returns-3 (λ c κs. search needs) returns-4 (λ c κs. search needs) (λ c. search needs) (λ c κs. search needs) returns-5 (λ c κs. search needs) returns-6 (λ c κs. search needs) returns-7)

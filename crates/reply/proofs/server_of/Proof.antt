@@ -1,17 +1,21 @@
 -- `reply::server_of` meets its contract: the test is the definition's.
 -- Assumes nothing.
+use mathlib.Core.Path.{ap, _∙_}
+use borrow.Author.Tests.{eq-eqb, ne-eqb}
+use Rattle.walk.proofs.Verdicts.{taken, left}
+use Rattle.reply.specs.Reply.{sent}
+use Rattle.reply.specs.Code.{sentIn}
 use borrow.Author.Needs.{needs}
-use Rattle.reply.specs.State.{serverIn}
 use Rattle.reply.proofs.server_of.Statement.{statement}
 use Rattle.reply.proofs.server_of.Tie as tie
 
 returns : tie.Need-returns
-unfolding serverIn
-returns c = rw (c .before .if1 .taken)
+unfolding sentIn
+returns c = taken _ _ _ (eq-eqb _ _ (c .if1 .taken))
 
 returns-2 : tie.Need-returns-2
-unfolding serverIn
-returns-2 c = rw (c .if1 .left)
+unfolding sentIn
+returns-2 c = ap sent (c .body .ensures) ∙ left _ _ _ (ne-eqb _ _ (c .before .if1 .left))
 
 pub server-of-spec : {M : Type 1} → statement M
-server-of-spec = tie.close (tie.spec returns returns-2)
+server-of-spec = tie.close (tie.spec returns (λ c κs. search needs) returns-2)

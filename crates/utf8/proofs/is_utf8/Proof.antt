@@ -1,5 +1,6 @@
--- `utf8::is_utf8` meets its contract. The loop's invariant: the answer from the place reached is the whole answer. A turn
--- passes one character, and the pairs and then the ASCII bytes after it. The measure is what is left of the length.
+-- `utf8::is_utf8` meets its contract. The loop's invariant: the answer from the place reached is the whole answer. It holds after
+-- the passes over blocks and the one over single ASCII bytes, and a turn passes one character, and the pairs and then the ASCII
+-- bytes after it. The measure is what is left of the length.
 -- Assumes nothing.
 use borrow.Author.Needs.{needs}
 use mathlib.Core.Path.{_≡_, sym, _∙_}
@@ -17,24 +18,31 @@ Inv-loop s at₀ at = wellFormed (drop at s) ≡ wellFormed s
 abbrev μ-loop : tie.MeasureT-loop
 μ-loop s at₀ at = length s - at
 
-is-ascii-requires : tie.Need-is-ascii-requires Inv-loop μ-loop
-is-ascii-requires c κs = search needs
+after-blocks-requires : tie.Need-after-blocks-requires Inv-loop μ-loop
+after-blocks-requires c κs = search needs
 
-returns : tie.Need-returns Inv-loop μ-loop
-returns c = sym (c .before .is-ascii .ensures (c .if1 .taken))
+after-blocks-requires-2 : tie.Need-after-blocks-requires-2 Inv-loop μ-loop
+after-blocks-requires-2 c κs = (c .after-blocks .ensures .inside (search needs), search needs)
+
+after-blocks-requires-3 : tie.Need-after-blocks-requires-3 Inv-loop μ-loop
+after-blocks-requires-3 c κs = (c .after-blocks2 .ensures .inside (c .before .after-blocks .ensures .inside (search needs)), search needs)
 
 after-ascii-requires : tie.Need-after-ascii-requires Inv-loop μ-loop
 after-ascii-requires c κs = search needs
 
 loop-holds : tie.Need-loop-holds Inv-loop μ-loop
-loop-holds c = c .after-ascii .ensures .same
+loop-holds c =
+    c .after-ascii .ensures .same
+    ∙ c .before .after-blocks3 .ensures .same
+    ∙ c .before .before .after-blocks2 .ensures .same
+    ∙ c .before .before .before .after-blocks .ensures .same
 
 size-at-requires : tie.Need-size-at-requires Inv-loop μ-loop
 size-at-requires c κs = search needs
 
-returns-2 : tie.Need-returns-2 Inv-loop μ-loop
-returns-2 c =
-    sym (at-none _ _ (c .before .before .loop-test .taken) (sym (c .before .size-at .ensures) ∙ c .if2 .taken))
+returns : tie.Need-returns Inv-loop μ-loop
+returns c =
+    sym (at-none _ _ (c .before .before .loop-test .taken) (sym (c .before .size-at .ensures) ∙ c .if1 .taken))
     ∙ c .before .before .before .loop .inv
 
 add-after-pairs : tie.Need-add-after-pairs Inv-loop μ-loop
@@ -59,11 +67,11 @@ loop-again c =
     (c .before .before .before .before .loop-test .taken)
     _
     (c .before .before .before .size-at .ensures)
-    (c .before .before .if2 .left)
+    (c .before .before .if1 .left)
     ∙ c .before .before .before .before .before .loop .inv
 
-returns-3 : tie.Need-returns-3 Inv-loop μ-loop
-returns-3 c = sym (at-end _ _ (c .loop-test .left)) ∙ c .before .loop .inv
+returns-2 : tie.Need-returns-2 Inv-loop μ-loop
+returns-2 c = sym (at-end _ _ (c .loop-test .left)) ∙ c .before .loop .inv
 
 pub is-utf8-spec : {M : Type 1} → statement M
 is-utf8-spec =
@@ -71,15 +79,16 @@ is-utf8-spec =
     (tie.spec
     Inv-loop
     μ-loop
-    is-ascii-requires
-    returns
+    after-blocks-requires
+    after-blocks-requires-2
+    after-blocks-requires-3
     after-ascii-requires
     loop-holds
     size-at-requires
-    returns-2
+    returns
     add-after-pairs
     after-pairs-requires
     after-ascii-requires-2
     loop-less
     loop-again
-    returns-3)
+    returns-2)

@@ -1,0 +1,18 @@
+-- `walk::walk` meets its contract: it is the walk over the bytes that the limit leaves.
+-- Assumes nothing.
+use mathlib.Core.Path.{sym, ap}
+use native.Mathlib.Omega.{arith}
+use denote.Ref.{now}
+use lib.ListN.{length, length-take}
+use borrow.Author.Needs.{needs}
+use Rattle.walk.proofs.walk.Statement.{statement}
+use Rattle.walk.proofs.walk.Tie as tie
+
+walk-cut-requires : tie.Need-walk-cut-requires
+walk-cut-requires c κs = omega (arith, ap length (c .before .cut-at .ensures), length-take (c .before .before .before .args .limit) (now (c .before .before .before .args .message)))
+
+returns : tie.Need-returns
+returns c = rw (sym (c .before .before .cut-at .ensures)) (c .walk-cut .ensures)
+
+pub walk-spec : {M : Type 1} → statement M
+walk-spec = tie.close (tie.spec (λ c κs. search needs) walk-cut-requires returns)

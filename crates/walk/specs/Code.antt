@@ -1,0 +1,110 @@
+-- What the code makes of one record, by its table's entry; proofs/ shows that it is the walk's own step.
+use Prim.Native.Nat.{ℕ, _+_, _*_, _<_, _≤_}
+use mathlib.Core.Path.{_≡_}
+use mathlib.Core.List.{List}
+use mathlib.Core.Bool.{Bool, true, cond}
+use lib.ListN.{getD, set}
+use lib.Dec.{ltb, eqb}
+use Rattle.wire.specs.Bytes.{numberAt}
+use Rattle.nts.specs.declared.NtsError.{NtsError}
+use Rattle.record.specs.Record.{lookAt}
+use Rattle.record.specs.Told.{toldLooked}
+use Rattle.record.specs.declared.Looked.{Looked}
+use Rattle.record.specs.declared.Looked.the-variants as looked
+use Rattle.walk.specs.Table.{known}
+use Rattle.walk.specs.Rules.{ending, passed, noted, once, single, told, isNoted}
+use Rattle.walk.specs.Shown.{slotOf}
+use Rattle.walk.specs.Found.{entryIn}
+use Rattle.walk.specs.declared.Seen.{Seen}
+use Rattle.walk.specs.declared.Verdict.{Verdict}
+use Rattle.walk.specs.declared.Verdict.the-variants.{On, End, Stop}
+use Rattle.walk.specs.declared.Stepped.{Stepped}
+
+-- ---- what is asked of a record
+
+-- what a record is refused with that is told with its code
+unfoldable pub errorOf : ℕ → ℕ → NtsError
+errorOf k n = cond (eqb k 2) (NtsError.Error (record { 0 = n })) (cond (eqb k 3) (NtsError.UnknownWarning (record { 0 = n })) NtsError.Invalid)
+
+-- its place in the table, its critical bit, and what it tells
+pub record Asked : Type 0 where
+  pub slot : ℕ
+  pub critical : Bool
+  pub told : NtsError
+
+-- of a record of the message s whose body begins at `start`
+abbrev pub asked : List ℕ → ℕ → Bool → ℕ → Asked
+asked s slot critical start = record { slot = slot; critical = critical; told = errorOf slot (numberAt s start) }
+
+-- ---- the verdict on it
+
+unfoldable pub atMost : ℕ → ℕ → Verdict
+atMost n limit = cond (ltb limit n) (Stop NtsError.Invalid) On
+
+-- a known kind: its entry, how many of it were met before, the record's size, and what it tells
+unfoldable pub ruledOf : ℕ → ℕ → ℕ → NtsError → Verdict
+ruledOf r before n error =
+    cond (eqb r ending) End
+    (cond (eqb r passed) On
+    (cond (eqb r noted) On
+    (cond (eqb r once) (atMost before 0)
+    (cond (eqb r single) (cond (eqb before 0) (atMost n 2) (Stop NtsError.Invalid))
+    (cond (eqb r told) (Stop error) (Stop NtsError.Invalid))))))
+
+-- an unknown kind
+unfoldable pub unknownOf : ℕ → Bool → Verdict
+unknownOf slot critical = cond (eqb slot 11) (cond critical (Stop NtsError.UnrecognizedCriticalRecord) On) On
+
+unfoldable pub verdictOf : ℕ → Asked → ℕ → ℕ → Verdict
+verdictOf r x before n =
+    cond (eqb (x .slot) 11)
+    (cond (x .critical) (Stop NtsError.UnrecognizedCriticalRecord) On)
+    (ruledOf r before n (x .told))
+
+-- ---- one record more, in the cells
+
+abbrev pub putIn : List ℕ → ℕ → Seen → List ℕ
+putIn c j v = set (set (set c (j * 3) (v .count)) (j * 3 + 1) (v .start)) (j * 3 + 2) (v .len)
+
+abbrev pub moreIn : List ℕ → ℕ → ℕ → ℕ → List ℕ
+moreIn c j start n = cond (eqb (getD c (j * 3) 0) 0) (putIn c j (record { count = 1; start = start; len = n })) (set c (j * 3) (getD c (j * 3) 0 + 1))
+
+pub record Met (r : ℕ) (x : Asked) (j start n : ℕ) (c : List ℕ) (v : Verdict) (c′ : List ℕ) : Type 0 where
+  pub says : v ≡ verdictOf r x (entryIn c j .count) n
+  pub left : c′ ≡ moreIn c j start n
+
+-- the body that the cells tell of a kind which the table notes lies inside a message of n bytes
+unfoldable pub Fits : List ℕ → ℕ → List ℕ → Type 0
+Fits rules n c = (k : ℕ) → k < 15 → known k ≡ true → isNoted (getD rules k 0) ≡ true → entryIn c k .start + entryIn c k .len ≤ n
+
+-- ---- one step
+
+-- no kind was met more often than there are bytes before the place
+unfoldable pub Few : List ℕ → ℕ → Type 0
+Few c at = (j : ℕ) → j < 15 → entryIn c j .count ≤ at
+
+-- what a look alone says: a record that reads lets the walk go on, one that does not stops it
+abbrev pub lookedOf : Looked → Verdict
+lookedOf (looked.Whole x) = On
+lookedOf (looked.Refused r) = Stop (r .error)
+
+-- the verdict, the place after the record, and the cells, by what a look at it says
+abbrev pub verdictIn : List ℕ → List ℕ → ℕ → List ℕ → Looked → Verdict
+verdictIn rules s at c (looked.Whole x) =
+    verdictOf (getD rules (slotOf (x .kind)) 0) (asked s (slotOf (x .kind)) (x .critical) (at + 4)) (entryIn c (slotOf (x .kind)) .count) (x .size)
+verdictIn rules s at c (looked.Refused r) = Stop (r .error)
+
+abbrev pub nextIn : ℕ → Looked → ℕ
+nextIn at (looked.Whole x) = at + 4 + x .size
+nextIn at (looked.Refused r) = at
+
+abbrev pub cellsIn : ℕ → List ℕ → Looked → List ℕ
+cellsIn at c (looked.Whole x) = moreIn c (slotOf (x .kind)) (at + 4) (x .size)
+cellsIn at c (looked.Refused r) = c
+
+pub record Steps (rules s : List ℕ) (at : ℕ) (c : List ℕ) (r : Stepped) (c′ : List ℕ) : Type 0 where
+  pub look : Looked
+  pub looks : toldLooked look ≡ lookAt s at
+  pub says : r .verdict ≡ verdictIn rules s at c look
+  pub after : r .next ≡ nextIn at look
+  pub left : c′ ≡ cellsIn at c look
