@@ -1,6 +1,6 @@
 //! Makes the stand-in for the crate's module `nts`, as oracle/build.rs does: the needed items of its mod.rs, its files
 //! record.rs and messages.rs, which are compiled where they stand, and a copy of messages.rs in which one constant is
-//! raised. Then says where the library to link is.
+//! raised. The library is linked by bindings/rust.
 
 use std::{env, fs, path::PathBuf};
 
@@ -19,11 +19,6 @@ const RAISED: &str = "const MAX_MESSAGE_SIZE: u64 = 65535;";
 
 fn main() {
     println!("cargo::rerun-if-env-changed=CRATE_FILES");
-    println!("cargo::rerun-if-env-changed=LIBRARY");
-    let library = PathBuf::from(env::var("LIBRARY").expect("LIBRARY: the static library, see bench/run"));
-    println!("cargo::rerun-if-changed={}", library.display());
-    println!("cargo::rustc-link-arg={}", library.display());
-
     let files = env::var("CRATE_FILES").expect("CRATE_FILES: the folder of the crate's src, see bench/run");
     let nts = PathBuf::from(files).join("nts");
     let module = nts.join("mod.rs");

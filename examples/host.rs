@@ -1,12 +1,12 @@
 //! Client and server of a key exchange in Rust. Each side has one end of a pair of sockets, where a gateway has a TLS connection; the keys that TLS
-//! would export, and what a server seals into its cookies, are left out. What it prints is in host.out.
+//! would export (exporter_context and key_length say which), and what a server seals into its cookies, are left out. What it prints is in host.out.
 //!
 //!     ./archive && cargo run --manifest-path bindings/rust/Cargo.toml --example host
 
 use ntske::{
-    choose, write_error, write_no_algorithm, write_no_protocol, write_request, AeadAlgorithm,
-    Denied, ErrorCode, List, Message, Name, Names, NextProtocol, Plan, Record, Refusal, Refused,
-    Request, Tray,
+    choose, choose_protocol, write_error, write_no_algorithm, write_no_protocol, write_request,
+    AeadAlgorithm, Denied, ErrorCode, List, Message, Name, Names, NextProtocol, Plan, Record,
+    Refused, Request, Tray,
 };
 use std::io::{Read, Write};
 use std::net::Shutdown;
@@ -18,24 +18,29 @@ const SIZE: usize = 4096;
 const LIMIT: u16 = 4096;
 const ENTRIES: usize = 16;
 
-/// Takes bytes off a stream until a reader no longer says that some are missing, or none come any more.
-fn receive<'m>(
-    from: &mut UnixStream,
-    message: &'m mut [u8],
-    read: impl Fn(&[u8]) -> Option<Refusal>,
-) -> Outcome<Message<'m>> {
+/// Whether these bytes hold a message through its end record. A header is two bytes with the kind in their low fifteen bits, and two with the body's
+/// size.
+fn is_whole(mut message: &[u8]) -> bool {
+    while let [high, low, size_high, size_low, rest @ ..] = message {
+        let size = u16::from_be_bytes([*size_high, *size_low]).into();
+        if rest.len() < size {
+            return false;
+        }
+        if high & 0x7F == 0 && *low == 0 {
+            return true;
+        }
+        message = &rest[size..];
+    }
+    false
+}
+
+/// Takes bytes off a stream until an end record is there, the buffer is full, or none come any more. What was sent is for the reader to judge.
+fn receive<'m>(from: &mut UnixStream, message: &'m mut [u8]) -> Outcome<Message<'m>> {
     let mut len = 0;
     loop {
         let got = from.read(&mut message[len..])?;
         len += got;
-        let short = matches!(
-            read(&message[..len]),
-            Some(Refusal {
-                why: Refused::UnexpectedEof,
-                ..
-            })
-        );
-        if got == 0 || !short {
+        if got == 0 || is_whole(&message[..len]) {
             return Ok(Message::new(&message[..len]));
         }
     }
@@ -48,6 +53,8 @@ fn answer_request<'o>(
     denied: Denied,
     out: &'o mut [u8],
 ) -> Outcome<&'o mut [u8]> {
+    let (own_protocols, own_algorithms) =
+        ([NextProtocol::NTPV4], [AeadAlgorithm::AES_SIV_CMAC_256]);
     let server = Name::new("time.example");
     let mut tray = [0; 64];
 
@@ -62,18 +69,13 @@ fn answer_request<'o>(
     }
     println!();
 
-    let chosen = match choose(
-        protocols,
-        algorithms,
-        &[NextProtocol::NTPV4],
-        &[AeadAlgorithm::AES_SIV_CMAC_256],
-    ) {
+    let chosen = match choose(protocols, algorithms, &own_protocols, &own_algorithms) {
         Ok(chosen) => chosen,
         Err(why) => {
             println!("server: refused {}: {why}", why.number());
             return Ok(match why {
                 Refused::NoOverlappingProtocol => write_no_protocol(out)?,
-                _ => write_no_algorithm(NextProtocol::NTPV4, out)?,
+                _ => write_no_algorithm(choose_protocol(protocols, &own_protocols)?, out)?,
             });
         }
     };
@@ -92,11 +94,7 @@ fn answer_request<'o>(
 
 fn server(stream: &mut UnixStream) -> Outcome<()> {
     let (mut buffer, mut out, mut table) = ([0; SIZE], [0; SIZE], [0; 2 * ENTRIES]);
-    let message = receive(stream, &mut buffer, |bytes| {
-        Message::new(bytes)
-            .request(LIMIT, &mut [0; 2 * ENTRIES])
-            .err()
-    })?;
+    let message = receive(stream, &mut buffer)?;
     let reply = match message.request(LIMIT, &mut table) {
         Ok(Request::KeyExchange {
             protocols,
@@ -109,11 +107,7 @@ fn server(stream: &mut UnixStream) -> Outcome<()> {
         }
         Err(refusal) => {
             println!("server: {refusal}");
-            let code = match refusal.why {
-                Refused::UnrecognizedCriticalRecord => ErrorCode::UNRECOGNIZED_CRITICAL_RECORD,
-                _ => ErrorCode::BAD_REQUEST,
-            };
-            write_error(code, &mut out)?
+            write_error(refusal.why.error_code(), &mut out)?
         }
     };
     stream.write_all(reply)?;
@@ -122,11 +116,7 @@ fn server(stream: &mut UnixStream) -> Outcome<()> {
 
 fn client(stream: &mut UnixStream) -> Outcome<()> {
     let (mut buffer, mut table) = ([0; SIZE], [0; 2 * ENTRIES]);
-    let message = receive(stream, &mut buffer, |bytes| {
-        Message::new(bytes)
-            .reply(LIMIT, &mut [0; 2 * ENTRIES])
-            .err()
-    })?;
+    let message = receive(stream, &mut buffer)?;
     let reply = match message.reply(LIMIT, &mut table) {
         Ok(reply) => reply,
         Err(refusal) => {
@@ -156,13 +146,22 @@ fn client(stream: &mut UnixStream) -> Outcome<()> {
     Ok(())
 }
 
+/// What the client does once it has sent its request: it waits for the reply with its end open, or closes its half of the connection.
+#[derive(PartialEq)]
+enum Then {
+    Waits,
+    Closes,
+}
+
 /// One exchange: what the client sends, what the server makes of it, and what the client makes of the reply.
-fn exchange(title: &str, request: &[u8]) -> Outcome<()> {
+fn exchange(title: &str, request: &[u8], then: Then) -> Outcome<()> {
     let (mut ours, mut theirs) = UnixStream::pair()?;
     println!("== {title}");
     println!("client: sends {} bytes", request.len());
     ours.write_all(request)?;
-    ours.shutdown(Shutdown::Write)?;
+    if then == Then::Closes {
+        ours.shutdown(Shutdown::Write)?;
+    }
     server(&mut theirs)?;
     client(&mut ours)
 }
@@ -177,14 +176,20 @@ fn main() -> Outcome<()> {
     let nobody = Names::new(&mut []);
 
     let mut denied = Names::new(&mut buffer);
-    denied.push(Name::new("old.example"))?;
+    denied.append(Name::new("old.example"))?;
     let request = write_request(&protocols, &algorithms, &denied, &mut out)?;
-    exchange("a key exchange", request)?;
+    exchange("a key exchange", request, Then::Waits)?;
 
-    exchange("a request that is cut", &request[..10])?;
+    exchange("a request that is cut", &request[..10], Then::Closes)?;
+
+    // three bytes of algorithms: bytes are missing in that record, and none in the message
+    let ill_formed = [
+        0x80, 1, 0, 2, 0, 0, 0x80, 4, 0, 3, 0, 0x0F, 0, 0x80, 0, 0, 0,
+    ];
+    exchange("a record that is ill-formed", &ill_formed, Then::Waits)?;
 
     let request = write_request(&protocols, &algorithms[..1], &nobody, &mut out)?;
-    exchange("no algorithm in common", request)?;
+    exchange("no algorithm in common", request, Then::Waits)?;
 
     let first = Record::Unknown {
         kind: 16385,
@@ -197,6 +202,7 @@ fn main() -> Outcome<()> {
     exchange(
         "an unknown record with its critical bit set",
         &out[..first + rest],
+        Then::Waits,
     )?;
 
     // what the writers refuse

@@ -1,25 +1,60 @@
 /*
- * The key exchange of Network Time Security (RFC 8915) for a host in C. The functions are those of crates/reading, handing, planning and writing, which are
- * proved to meet their contracts; this header is not, and tests/abi holds it against the source.
+ * The key exchange of Network Time Security (RFC 8915) for a host in C (C11) or C++ (C++11).
  *
- * Every call ends with an answer for every value of its arguments, and returns 0 or the number of a refusal; ntske_is_utf8 alone has none, and returns its answer:
+ * The host keeps TLS, keys, ciphers and sockets. The library reads and writes the messages, chooses
+ * protocol and algorithm, allocates nothing and keeps nothing. Its functions are those of
+ * crates/reading, handing, planning, writing and showing, which are proved to meet their contracts;
+ * this header is not, and tests/abi holds it against the source.
  *
- *    1  bytes are missing                                 9  the value is no record, plan or tray
- *    2  a body is ill-formed                             10  the output, or the cells for the answer, are too short
- *    3  an unknown record has its critical bit set       11  the reply has an error record; its code is beside
- *    4  the set of records is not allowed                12  the reply has a warning record; its code is beside
- *    5  a fixed key's algorithm is not 15 or 17;         13  no protocol in common
- *       its number is beside                             14  no algorithm in common
- *    6  a key half has the wrong length                  15  no cookie
- *    7  more names or cookies than the table or the plan holds
- *    8  a body to write is longer than 65,535 bytes
+ * A server, once a whole request of `len` bytes is in `message`:
  *
- * What a call answers besides, it puts into cells (size_t) at the front of the last array. Where that has fewer cells than are told here the call returns 10, before
- * it looks at anything else, and changes nothing. A refusal changes no table, no tray, no plan and no output. Of a reader's refusal the answer's cells hold
- * the place of the record concerned, 1 or 0 for whether a number is beside it, that number, and 0 in the others; every other refusal leaves the cells as they are.
+ *     struct ntske_request request;
+ *     struct ntske_choice choice;
+ *     struct ntske_plan plan;
+ *     uint64_t answer = ntske_read_request(message, len, NTSKE_LIMIT, table, TABLE_LEN, &request);
+ *     if (answer != NTSKE_OK)
+ *         ntske_write_error(ntske_error_code(answer), out, OUT_LEN, &written);
+ *     else if (request.sort == NTSKE_KEY_EXCHANGE) {
+ *         const struct ntske_key_exchange *x = &request.key_exchange;
+ *         answer = ntske_choose(message + x->protocols.start, x->protocols.len,
+ *                               message + x->algorithms.start, x->algorithms.len,
+ *                               own_protocols, 1, own_algorithms, 2, &choice);
+ *         ..                                   (13 and 14 have writers of their own)
+ *         ntske_plan_new((uint16_t)choice.protocol, (uint16_t)choice.algorithm, &plan);
+ *         ntske_plan_append(&plan, cookie, cookie_len, tray, TRAY_LEN);         (up to eight)
+ *         ntske_write_reply(&plan, tray, TRAY_LEN, NTSKE_NO_BYTES, 0, out, OUT_LEN, &written);
+ *     }
  *
- * What the compiler cannot see and the host owes: each pointer points to as many elements as the length behind it says, is not NULL and is aligned for its element, also
- * where the length is 0; what is written to overlaps nothing else that is lent to the same call; and no length is above PTRDIFF_MAX in bytes.
+ * A client:
+ *
+ *     ntske_write_request(protocols, 1, algorithms, 2, NTSKE_NO_BYTES, 0, 0, out, OUT_LEN,
+ *                         &written);
+ *     ..                                       (send it, and take the whole reply)
+ *     struct ntske_reply reply;
+ *     answer = ntske_read_reply(message, len, NTSKE_LIMIT, table, TABLE_LEN, &reply);
+ *     if (answer != NTSKE_OK)
+ *         printf("refused %u at %lu: %s\n", ntske_refusal(answer), ntske_place(answer),
+ *                ntske_words(answer));
+ *     for (size_t i = 0; answer == NTSKE_OK && i < reply.cookies; i++)
+ *         ntske_entry(message, len, table, TABLE_LEN, i, &cookie);
+ *
+ * README.md has both as programs, and examples/host.c is a whole host.
+ *
+ * What a call returns. Every call ends with an answer for every value of its arguments. It returns
+ * NTSKE_OK, or one word with the refusal's number in bits 0 to 15, the number beside it in bits 16
+ * to 31 (5, 11 and 12 have one) and its place in bits 32 to 63 (those of ntske_read_request and
+ * ntske_read_reply have one): ntske_refusal, ntske_beside and ntske_place take it apart,
+ * ntske_words says it in words. A call that is refused changes nothing that was lent to it: no
+ * struct, no count, no table, no tray, no output. ntske_is_utf8 and ntske_version refuse nothing
+ * and return their answer.
+ *
+ * What the host owes, since the compiler cannot see it: a pointer is not NULL and is aligned for
+ * what it points to, also where the length behind it is 0 (NTSKE_NO_BYTES and NTSKE_NO_NUMBERS are
+ * there to be lent for none that is only read; a table, a tray or an output of length 0 is an
+ * element of the host's own); it points to as many elements as that length says, or, where no
+ * length is behind it, to one; what is written to overlaps nothing else that is lent to the same
+ * call; and no length is above PTRDIFF_MAX in bytes. What a call only writes need not be set
+ * before.
  */
 #ifndef NTSKE_H
 #define NTSKE_H
@@ -29,15 +64,42 @@
 
 #ifdef __cplusplus
 extern "C" {
+#define NTSKE_ASSERT static_assert
+#else
+#define NTSKE_ASSERT _Static_assert
 #endif
 
-/* How many cells the answer of a reader has, a plan, and a record that is to be written. */
-#define NTSKE_ANSWER 10
-#define NTSKE_PLAN 8
-#define NTSKE_RECORD 7
+/* ---- numbers --------------------------------------------------------------------------------- */
+
+/* This header's version, 0.2.0, a byte for each number. ntske_version tells the archive's. */
+#define NTSKE_VERSION 0x000200
+
+/* TLS (RFC 8915, section 4): the application protocol's name (ALPN), and the port. */
+#define NTSKE_ALPN "ntske/1"
+#define NTSKE_PORT 4460
+
+/* The exporter's label (section 4.3), and the length of its context: see ntske_context. */
+#define NTSKE_EXPORTER_LABEL "EXPORTER-network-time-security"
+#define NTSKE_CONTEXT_LEN 5
+
+/* The largest limit of a reader, the most cookies of a plan, and a tray's bytes before a body. */
+#define NTSKE_LIMIT 65535
+#define NTSKE_MOST_COOKIES 8
+#define NTSKE_FIELD_HEADER 3
+
+/* The bytes of an output that holds every listing. */
+#define NTSKE_LISTING 400000
+
+/* To be lent with the length 0, where there are no bytes or no numbers. */
+static const uint16_t ntske_none[1] = {0};
+#define NTSKE_NO_BYTES ((const uint8_t *)ntske_none)
+#define NTSKE_NO_NUMBERS ntske_none
+
+/* What a call returns that refuses nothing. */
+#define NTSKE_OK 0
 
 /* The refusals, by their numbers. */
-enum ntske_refusal {
+enum ntske_refusals {
     NTSKE_UNEXPECTED_EOF = 1,
     NTSKE_INVALID_DATA = 2,
     NTSKE_UNRECOGNIZED_CRITICAL_RECORD = 3,
@@ -55,142 +117,495 @@ enum ntske_refusal {
     NTSKE_NO_COOKIE = 15
 };
 
-/* ---- reading ---- */
+/* Kinds of records: RFC 8915, section 4.1, and from 8 on those that the library knows besides. */
+enum ntske_kinds {
+    NTSKE_KIND_END_OF_MESSAGE = 0,
+    NTSKE_KIND_NEXT_PROTOCOL = 1,
+    NTSKE_KIND_ERROR = 2,
+    NTSKE_KIND_WARNING = 3,
+    NTSKE_KIND_AEAD_ALGORITHM = 4,
+    NTSKE_KIND_NEW_COOKIE = 5,
+    NTSKE_KIND_SERVER = 6,
+    NTSKE_KIND_PORT = 7,
+    NTSKE_KIND_KEEP_ALIVE = 8,
+    NTSKE_KIND_SUPPORTED_NEXT_PROTOCOL_LIST = 9,
+    NTSKE_KIND_SUPPORTED_ALGORITHM_LIST = 10,
+    NTSKE_KIND_FIXED_KEY_REQUEST = 12,
+    NTSKE_KIND_NTP_SERVER_DENY = 13,
+    NTSKE_KIND_AUTHENTICATION = 14
+};
+
+/* Sorts of requests. */
+enum ntske_sorts { NTSKE_KEY_EXCHANGE = 1, NTSKE_FIXED_KEY = 2, NTSKE_SUPPORT = 3 };
 
 /*
- * A request, as if the message were cut after `limit` bytes. Names that the client denies go into the table, two cells a name, start and length, in message order; the
- * table of any other answer stays as it is.
- * Answer, ten cells:
- *   1, start and length of the protocols, start and length of the algorithms, how many names are denied, 0, 0, 0, 0     (key exchange)
- *   2, start and length of the authentication, of the key from client to server and of the key from server to client, algorithm, protocol, keep-alive   (fixed keys)
- *   3, start and length of the authentication, 1 or 0 for whether protocols and algorithms are wanted, and for keep-alive, 0, 0, 0, 0   (support)
- * Refusals: 1 to 7; 10 for the cells.
+ * Protocols: NTPv4 (section 7.7), and NTPv5 as its drafts number it. Algorithms (RFC 5297), and the
+ * lengths of their keys in bytes.
  */
-uint32_t ntske_read_request(const uint8_t *message, size_t message_len, uint16_t limit, uint16_t *table, size_t table_len, size_t *answer, size_t answer_len);
+enum ntske_protocols { NTSKE_NTPV4 = 0, NTSKE_DRAFT_NTPV5 = 0x8001 };
+enum ntske_algorithms { NTSKE_AES_SIV_CMAC_256 = 15, NTSKE_AES_SIV_CMAC_512 = 17 };
+enum ntske_key_lengths { NTSKE_KEY_256 = 32, NTSKE_KEY_512 = 64 };
 
-/*
- * A reply to a key-exchange request, in the same way; the cookies go into the table.
- * Answer, ten cells: protocol, algorithm, 1 or 0 for whether a server is named, start and length of its name, 1 or 0 for whether there is a port, the port, 1 or 0 for
- * keep-alive, how many cookies there are, 0.
- * Refusals: 1 to 4, 7, 11 to 15; 10 for the cells.
- */
-uint32_t ntske_read_reply(const uint8_t *message, size_t message_len, uint16_t limit, uint16_t *table, size_t table_len, size_t *answer, size_t answer_len);
+/* Codes of error records (section 4.1.3). Of warning records (section 4.1.4) the RFC names none. */
+enum ntske_error_codes {
+    NTSKE_CODE_UNRECOGNIZED_CRITICAL_RECORD = 0,
+    NTSKE_CODE_BAD_REQUEST = 1,
+    NTSKE_CODE_INTERNAL_SERVER_ERROR = 2
+};
 
-/*
- * The record at a place of a message.
- * Answer, ten cells: its kind, the critical bit of an unknown kind (otherwise 0), the number of kinds 2, 3 and 7, start and length of the body or of the first key, start and
- * length of the second key, the place after the record, 0, 0. The first seven are what ntske_write_record takes.
- * Refusals: 1 and 2; 10 for the cells.
- */
-uint32_t ntske_read_record(const uint8_t *message, size_t message_len, size_t place, size_t *answer, size_t answer_len);
+/* What a support reply is to hold, as a sum of these. */
+enum ntske_asked { NTSKE_ALGORITHMS = 1, NTSKE_PROTOCOLS = 2, NTSKE_KEEP_ALIVE = 4 };
 
-/*
- * A part of a message as it is handed out: only what is inside the message.
- * Answer, two cells: start and length, 0 and 0 where the part is not inside. Refusals: 10 for the cells.
- */
-uint32_t ntske_part(const uint8_t *message, size_t message_len, size_t start, size_t len, size_t *answer, size_t answer_len);
+/* The tag of a tray's field: a cookie of a reply, or a name that a request denies. */
+enum ntske_tags { NTSKE_TAG_COOKIE = 1, NTSKE_TAG_DENIED = 2 };
 
-/*
- * The name or cookie at an index of a table that a reader filled, handed out as ntske_part does. Refusals: 10 for the cells.
- */
-uint32_t ntske_entry(const uint8_t *message, size_t message_len, const uint16_t *table, size_t table_len, size_t index, size_t *answer, size_t answer_len);
-
-/*
- * The number at an index of a list of numbers, which is a part of a message.
- * Answer, three cells: 1 or 0 for whether it is there, the number, 0. Refusals: 10 for the cells.
- */
-uint32_t ntske_number(const uint8_t *message, size_t message_len, size_t start, size_t len, size_t index, size_t *answer, size_t answer_len);
-
-/*
- * The algorithm and its key size at an index of a list of such pairs.
- * Answer, three cells: 1 or 0 for whether it is there, the algorithm, the key size. Refusals: 10 for the cells.
- */
-uint32_t ntske_pair(const uint8_t *message, size_t message_len, size_t start, size_t len, size_t index, size_t *answer, size_t answer_len);
-
-/* 1 where the bytes are UTF-8 (RFC 3629), otherwise 0. No refusal. */
-uint32_t ntske_is_utf8(const uint8_t *bytes, size_t bytes_len);
-
-/* ---- choosing ---- */
-
-/*
- * Of the client's two lists, as bytes of its message, the first number that the server's own list holds.
- * Answer, two cells: protocol and algorithm.
- * Refusals: 9 for a client's list of an odd length, 13, 14; 10 for the cells.
- */
-uint32_t ntske_choose(const uint8_t *protocols, size_t protocols_len, const uint8_t *algorithms, size_t algorithms_len, const uint16_t *own_protocols, size_t own_protocols_len,
-                      const uint16_t *own_algorithms, size_t own_algorithms_len, size_t *answer, size_t answer_len);
-
-/* ---- the plan of a reply ----
+/* ---- what is lent for an answer ---------------------------------------------------------------
  *
- * Eight cells of the host's: protocol, algorithm, 1 or 0 for whether there is a port, the port, 1 or 0 for whether the server is named, the name's length, 1 or 0 for
- * keep-alive, and how many bytes of the tray are used. The tray is a buffer of the host's, in which each cookie is a field of 3 bytes more than it.
- * Cells that hold no plan are 9: fewer than eight, a number above 65,535 in the first, second, fourth or sixth, or anything but 0 and 1 in the third, fifth or seventh.
+ * Each struct is laid out as an array of size_t. A protocol, an algorithm, a port, a kind and a
+ * code have sixteen bits; a flag (has_.., wants_.., keep_alive, critical, there) is 0 or 1.
  */
 
-/* A plan with a protocol and an algorithm, and nothing else. Refusals: 10 for fewer than eight cells. */
-uint32_t ntske_plan_new(uint16_t protocol, uint16_t algorithm, size_t *plan, size_t plan_len);
+/* Some bytes of a message: where they begin, and how many there are. */
+struct ntske_range {
+    size_t start;
+    size_t len;
+};
 
-/* Refusals of the next six: 9 for cells that hold no plan. */
-uint32_t ntske_plan_set_port(size_t *plan, size_t plan_len, uint16_t port);
-uint32_t ntske_plan_clear_port(size_t *plan, size_t plan_len);
-uint32_t ntske_plan_set_name_length(size_t *plan, size_t plan_len, uint16_t length);
-uint32_t ntske_plan_clear_name_length(size_t *plan, size_t plan_len);
-uint32_t ntske_plan_set_keep_alive(size_t *plan, size_t plan_len);
-uint32_t ntske_plan_clear_keep_alive(size_t *plan, size_t plan_len);
+struct ntske_key_exchange {
+    struct ntske_range protocols;      /* the client's list, two bytes a number, best first */
+    struct ntske_range algorithms;
+    size_t denied;                    /* how many names are in the table */
+};
+
+struct ntske_fixed_key {
+    struct ntske_range authentication;
+    struct ntske_range c2s;            /* the key from client to server */
+    struct ntske_range s2c;            /* the key from server to client */
+    size_t algorithm;                 /* 15 or 17, and the keys are as long as it asks */
+    size_t protocol;                  /* not judged */
+    size_t keep_alive;
+};
+
+struct ntske_support {
+    struct ntske_range authentication;
+    size_t wants_protocols;
+    size_t wants_algorithms;
+    size_t keep_alive;
+};
+
+/* A request: its sort, and what belongs to it; the cells behind that are 0. */
+struct ntske_request {
+    size_t sort;
+    union {
+        struct ntske_key_exchange key_exchange;
+        struct ntske_fixed_key fixed_key;
+        struct ntske_support support;
+    };
+};
+
+struct ntske_reply {
+    size_t protocol;
+    size_t algorithm;
+    size_t has_server;
+    struct ntske_range server;         /* 0 and 0 where no server is named */
+    size_t has_port;
+    size_t port;                      /* 0 where there is none */
+    size_t keep_alive;
+    size_t cookies;                   /* how many are in the table: one at least */
+};
 
 /*
- * A cookie more in the tray; of the tray only the bytes of its field change, of the plan the used length.
- * Refusals: 9 for cells that hold no plan, or a tray whose used part is cut, exceeds it, or holds anything but at most eight cookies; then 8; 7 for the ninth; 10 for no room.
+ * One record. The reader gives 0 for what a kind does not have. The writer asks of every kind that
+ * `critical` is 0 or 1 and `number` is at most 65,535; beyond that it does not look at what a kind
+ * does not have.
  */
-uint32_t ntske_plan_append(size_t *plan, size_t plan_len, const uint8_t *cookie, size_t cookie_len, uint8_t *tray, size_t tray_len);
+struct ntske_record {
+    size_t kind;
+    size_t critical;                  /* of an unknown kind: 11, and 15 to 32,767 */
+    size_t number;                    /* of kinds 2, 3 and 7 */
+    struct ntske_range body;           /* of kind 12 the key from client to server */
+    struct ntske_range second;         /* of kind 12 the key from server to client */
+};
+
+struct ntske_record_read {
+    struct ntske_record record;
+    size_t next;                      /* the place after it */
+};
+
+/* An entry of a list. */
+struct ntske_listed {
+    size_t there;                     /* 0 where the list has none there, and then all is 0 */
+    size_t number;
+    size_t key_size;                  /* of a pair; otherwise 0 */
+};
+
+struct ntske_choice {
+    size_t protocol;
+    size_t algorithm;
+};
 
 /*
- * How long the reply will be. Answer, one cell. Refusals: 9 for cells that hold no plan, or a broken tray; 10 for the cells.
+ * What a reply is to hold; made by ntske_plan_new. The plan is the host's to keep and to copy. One
+ * that is made or changed by hand is judged: 9 where a number is above 65,535 (protocol, algorithm,
+ * port, name_len) or a flag is neither 0 nor 1. A call that changes a plan puts all of it, with 0
+ * for a port or a length that is not planned.
  */
-uint32_t ntske_plan_length(const size_t *plan, size_t plan_len, const uint8_t *tray, size_t tray_len, size_t *length, size_t length_len);
+struct ntske_plan {
+    size_t protocol;
+    size_t algorithm;
+    size_t has_port;
+    size_t port;
+    size_t has_name;
+    size_t name_len;                  /* of the server's name, in bytes */
+    size_t keep_alive;
+    size_t used;                      /* how many bytes of the tray of cookies are used */
+};
 
-/* ---- writing ----
+#define NTSKE_CELL(type, field, i) \
+    NTSKE_ASSERT(offsetof(struct type, field) == (i) * sizeof(size_t), #type ", " #field)
+#define NTSKE_CELLS(type, n) NTSKE_ASSERT(sizeof(struct type) == (n) * sizeof(size_t), #type)
+NTSKE_CELLS(ntske_range, 2);
+NTSKE_CELL(ntske_range, start, 0);
+NTSKE_CELL(ntske_range, len, 1);
+NTSKE_CELLS(ntske_request, 10);
+NTSKE_CELL(ntske_request, sort, 0);
+NTSKE_CELL(ntske_request, key_exchange.protocols, 1);
+NTSKE_CELL(ntske_request, key_exchange.algorithms, 3);
+NTSKE_CELL(ntske_request, key_exchange.denied, 5);
+NTSKE_CELL(ntske_request, fixed_key.authentication, 1);
+NTSKE_CELL(ntske_request, fixed_key.c2s, 3);
+NTSKE_CELL(ntske_request, fixed_key.s2c, 5);
+NTSKE_CELL(ntske_request, fixed_key.algorithm, 7);
+NTSKE_CELL(ntske_request, fixed_key.protocol, 8);
+NTSKE_CELL(ntske_request, fixed_key.keep_alive, 9);
+NTSKE_CELL(ntske_request, support.authentication, 1);
+NTSKE_CELL(ntske_request, support.wants_protocols, 3);
+NTSKE_CELL(ntske_request, support.wants_algorithms, 4);
+NTSKE_CELL(ntske_request, support.keep_alive, 5);
+NTSKE_CELLS(ntske_reply, 9);
+NTSKE_CELL(ntske_reply, protocol, 0);
+NTSKE_CELL(ntske_reply, algorithm, 1);
+NTSKE_CELL(ntske_reply, has_server, 2);
+NTSKE_CELL(ntske_reply, server, 3);
+NTSKE_CELL(ntske_reply, has_port, 5);
+NTSKE_CELL(ntske_reply, port, 6);
+NTSKE_CELL(ntske_reply, keep_alive, 7);
+NTSKE_CELL(ntske_reply, cookies, 8);
+NTSKE_CELLS(ntske_record, 7);
+NTSKE_CELL(ntske_record, kind, 0);
+NTSKE_CELL(ntske_record, critical, 1);
+NTSKE_CELL(ntske_record, number, 2);
+NTSKE_CELL(ntske_record, body, 3);
+NTSKE_CELL(ntske_record, second, 5);
+NTSKE_CELLS(ntske_record_read, 8);
+NTSKE_CELL(ntske_record_read, record, 0);
+NTSKE_CELL(ntske_record_read, next, 7);
+NTSKE_CELLS(ntske_listed, 3);
+NTSKE_CELL(ntske_listed, there, 0);
+NTSKE_CELL(ntske_listed, number, 1);
+NTSKE_CELL(ntske_listed, key_size, 2);
+NTSKE_CELLS(ntske_choice, 2);
+NTSKE_CELL(ntske_choice, protocol, 0);
+NTSKE_CELL(ntske_choice, algorithm, 1);
+NTSKE_CELLS(ntske_plan, 8);
+NTSKE_CELL(ntske_plan, protocol, 0);
+NTSKE_CELL(ntske_plan, algorithm, 1);
+NTSKE_CELL(ntske_plan, has_port, 2);
+NTSKE_CELL(ntske_plan, port, 3);
+NTSKE_CELL(ntske_plan, has_name, 4);
+NTSKE_CELL(ntske_plan, name_len, 5);
+NTSKE_CELL(ntske_plan, keep_alive, 6);
+NTSKE_CELL(ntske_plan, used, 7);
+#undef NTSKE_CELL
+#undef NTSKE_CELLS
+#undef NTSKE_ASSERT
+
+/* ---- what a call returned -------------------------------------------------------------------- */
+
+/* The refusal's number, and 0 for none. */
+static inline unsigned ntske_refusal(uint64_t answer) { return (unsigned)(answer & 0xFFFF); }
+
+/* Whether a number is beside it: the algorithm of 5, the code of 11 and 12. */
+static inline int ntske_has_beside(uint64_t answer)
+{
+    unsigned n = ntske_refusal(answer);
+    return n == NTSKE_AEAD_NOT_SUPPORTED || n == NTSKE_ERROR || n == NTSKE_UNKNOWN_WARNING;
+}
+
+/* That number, and 0 for none. */
+static inline unsigned ntske_beside(uint64_t answer) { return (unsigned)(answer >> 16 & 0xFFFF); }
+
+/*
+ * Of a refusal of ntske_read_request and ntske_read_reply the place of the first byte of the record
+ * concerned, which is the end record where it is decided after the end. Otherwise 0.
+ */
+static inline unsigned long ntske_place(uint64_t answer) { return (unsigned long)(answer >> 32); }
+
+/* The refusal in words, without the number beside it and the place. */
+static inline const char *ntske_words(uint64_t answer)
+{
+    static const char *const words[] = {
+        "accepted",
+        "bytes are missing",
+        "a body is ill-formed",
+        "an unknown record has its critical bit set",
+        "the set of records is not allowed",
+        "the algorithm is not 15 or 17",
+        "a key half has the wrong length",
+        "more names or cookies than the table or the plan holds",
+        "a body to write is longer than 65,535 bytes",
+        "the value is no record, plan or tray",
+        "the output is too short",
+        "the reply has an error record",
+        "the reply has a warning record",
+        "no protocol in common",
+        "no algorithm in common",
+        "no cookie",
+    };
+    unsigned n = ntske_refusal(answer);
+    return n < sizeof words / sizeof *words ? words[n] : "a refusal that this header does not know";
+}
+
+/*
+ * The code of the error record with which a server answers a request that was refused so: 0 for 3;
+ * 1 for what is the client's fault (1, 2, 4, 5, 6); 2 for what is the server's own (7, since its
+ * table is too small, and any other number, 0 too). The replies to 13 and 14 are no errors: they
+ * are those of ntske_write_no_protocol and ntske_write_no_algorithm.
+ */
+static inline uint16_t ntske_error_code(uint64_t answer)
+{
+    switch (ntske_refusal(answer)) {
+    case NTSKE_UNRECOGNIZED_CRITICAL_RECORD:
+        return NTSKE_CODE_UNRECOGNIZED_CRITICAL_RECORD;
+    case NTSKE_UNEXPECTED_EOF:
+    case NTSKE_INVALID_DATA:
+    case NTSKE_INVALID:
+    case NTSKE_AEAD_NOT_SUPPORTED:
+    case NTSKE_INCORRECT_SIZED_KEY:
+        return NTSKE_CODE_BAD_REQUEST;
+    default:
+        return NTSKE_CODE_INTERNAL_SERVER_ERROR;
+    }
+}
+
+/*
+ * The exporter's context (section 5.1) for the key from client to server (s2c 0) or from server to
+ * client (s2c 1): protocol and algorithm, the high byte first, and which key it is. With it and
+ * NTSKE_EXPORTER_LABEL, TLS exports as many bytes as ntske_key_length tells.
+ */
+static inline void ntske_context(uint16_t protocol, uint16_t algorithm, int s2c,
+                                 uint8_t context[NTSKE_CONTEXT_LEN])
+{
+    context[0] = (uint8_t)(protocol >> 8);
+    context[1] = (uint8_t)(protocol & 0xFF);
+    context[2] = (uint8_t)(algorithm >> 8);
+    context[3] = (uint8_t)(algorithm & 0xFF);
+    context[4] = s2c ? 1 : 0;
+}
+
+/* The version of the archive that was linked, as NTSKE_VERSION. */
+uint64_t ntske_version(void);
+
+/* ---- reading ----------------------------------------------------------------------------------
  *
- * Each writer puts its message at the front of `out`, changes no byte behind it, and answers how many bytes it wrote: one cell.
+ * A message is read as if it were cut after `limit` bytes, through its first end record; what
+ * follows is not looked at. A table has two cells a name or cookie, start and length, in the
+ * message's order; cells past the last one stay as they are.
+ *
+ * 1 does not say that more bytes would help, nor another number that they would not. So a host that
+ * takes a message off a stream looks for its end record by the headers, as examples/host.c does,
+ * and then has it read.
+ */
+
+/*
+ * A request. The names that a client denies in a key exchange go into the table; for the other
+ * sorts it stays as it is. Refusals: 1 to 7, at a place; 7 for more names than the table has pairs
+ * of cells.
+ */
+uint64_t ntske_read_request(const uint8_t *message, size_t message_len, uint16_t limit,
+                            uint16_t *table, size_t table_len, struct ntske_request *answer);
+
+/*
+ * A reply to a key-exchange request; its cookies go into the table. Refusals: 1 to 4, 7 for more
+ * cookies than the table has pairs of cells, and 11 to 15, at a place.
+ */
+uint64_t ntske_read_reply(const uint8_t *message, size_t message_len, uint16_t limit,
+                          uint16_t *table, size_t table_len, struct ntske_reply *answer);
+
+/*
+ * The record at a place of a message, which has no limit but its length. Refusals: 1 and 2, at the
+ * place that was asked for, which the word does not tell.
+ */
+uint64_t ntske_read_record(const uint8_t *message, size_t message_len, size_t place,
+                           struct ntske_record_read *answer);
+
+/* 1 where the bytes are UTF-8 (RFC 3629), and 0 where they are not. Refuses nothing. */
+uint64_t ntske_is_utf8(const uint8_t *bytes, size_t bytes_len);
+
+/*
+ * The records of a message as text, a line each, and what ntske_read_request answers for it with
+ * room for so many names, as the program kelist prints it (with the limit 65,535 and room for
+ * 1,024). NTSKE_LISTING bytes are enough for every message. Refusals: 10.
+ */
+uint64_t ntske_list(const uint8_t *message, size_t message_len, uint16_t limit, size_t room,
+                    uint8_t *out, size_t out_len, size_t *written);
+
+/* ---- handing out ------------------------------------------------------------------------------
+ *
+ * These refuse nothing. What a reader answered lies inside its message, so the host may also take
+ * `message + part.start` itself; they are for numbers of other origin.
+ */
+
+/* A part as it is handed out: the same, and 0 and 0 where it is not inside the message. */
+uint64_t ntske_part(const uint8_t *message, size_t message_len, size_t start, size_t len,
+                    struct ntske_range *answer);
+
+/*
+ * The name or cookie at an index of a table, handed out as ntske_part does. How many there are only
+ * the reader's count says: past it the cells are what they were before the reader's call. A cell
+ * past the table's end counts as 0, so an index past the table gives 0 and 0, and one at the last
+ * cell of an odd number of them gives a part of length 0.
+ */
+uint64_t ntske_entry(const uint8_t *message, size_t message_len, const uint16_t *table,
+                     size_t table_len, size_t index, struct ntske_range *answer);
+
+/*
+ * The number at an index of a list of protocols or algorithms, which is a part of a message. A list
+ * that is not inside the message has none, and what is left over at a list's end counts as none.
+ */
+uint64_t ntske_number(const uint8_t *message, size_t message_len, size_t start, size_t len,
+                      size_t index, struct ntske_listed *answer);
+
+/* The algorithm and its key size at an index of a list of such pairs, likewise. */
+uint64_t ntske_pair(const uint8_t *message, size_t message_len, size_t start, size_t len,
+                    size_t index, struct ntske_listed *answer);
+
+/* ---- choosing -------------------------------------------------------------------------------- */
+
+/*
+ * Of each of the client's two lists, as bytes of its message, the first number that the server's
+ * own list holds. Refusals: 9 for a client's list of an odd length; then 13; then 14.
+ */
+uint64_t ntske_choose(const uint8_t *protocols, size_t protocols_len, const uint8_t *algorithms,
+                      size_t algorithms_len, const uint16_t *own_protocols,
+                      size_t own_protocols_len, const uint16_t *own_algorithms,
+                      size_t own_algorithms_len, struct ntske_choice *answer);
+
+/*
+ * The protocol alone, which the reply to 14 names. Refusals: 9 for a client's list of an odd
+ * length; then 13.
+ */
+uint64_t ntske_choose_protocol(const uint8_t *protocols, size_t protocols_len,
+                               const uint16_t *own_protocols, size_t own_protocols_len,
+                               size_t *answer);
+
+/* The length of an algorithm's key in bytes. Refusals: 5, with its number, but for 15 and 17. */
+uint64_t ntske_key_length(uint16_t algorithm, size_t *answer);
+
+/* ---- the plan of a reply ----------------------------------------------------------------------
+ *
+ * A tray is a buffer of the host's that holds fields, one behind the other: a tag, a length in two
+ * bytes, the high byte first, and a body. So each takes NTSKE_FIELD_HEADER bytes more than its
+ * body. The plan's tray holds the cookies of the reply.
+ */
+
+/* A plan with a protocol and an algorithm, and nothing else. Refuses nothing. */
+uint64_t ntske_plan_new(uint16_t protocol, uint16_t algorithm, struct ntske_plan *plan);
+
+/* Refusals of these six: 9 for what is no plan. */
+uint64_t ntske_plan_set_port(struct ntske_plan *plan, uint16_t port);
+uint64_t ntske_plan_clear_port(struct ntske_plan *plan);
+uint64_t ntske_plan_set_name_length(struct ntske_plan *plan, uint16_t length);
+uint64_t ntske_plan_clear_name_length(struct ntske_plan *plan);
+uint64_t ntske_plan_set_keep_alive(struct ntske_plan *plan);
+uint64_t ntske_plan_clear_keep_alive(struct ntske_plan *plan);
+
+/*
+ * A cookie more, behind the used part of the tray, of which only that field's bytes change.
+ * Refusals: 9 for what is no plan, and for a tray whose used part is cut, exceeds it, or holds
+ * anything but at most eight cookies; then 8; 7 for the ninth; 10 for no room.
+ */
+uint64_t ntske_plan_append(struct ntske_plan *plan, const uint8_t *cookie, size_t cookie_len,
+                           uint8_t *tray, size_t tray_len);
+
+/*
+ * How long the reply will be, also where there is no cookie yet. Refusals: 9 for what is no plan,
+ * or a tray that is broken as above.
+ */
+uint64_t ntske_plan_length(const struct ntske_plan *plan, const uint8_t *tray, size_t tray_len,
+                           size_t *length);
+
+/* ---- writing ----------------------------------------------------------------------------------
+ *
+ * Each writer puts its message at the front of `out`, changes no byte behind it, and answers how
+ * many bytes it wrote. 10 is for an output shorter than that, 8 for a body that would be longer
+ * than 65,535 bytes.
  */
 
 /*
  * The reply that a plan is for, with the server's name (of length 0 where none is planned).
- * Refusals: 9 for cells that hold no plan, a broken tray, a name of another length than planned or that is not UTF-8; then 15; then 10.
+ * Refusals: 9 for what is no plan, a broken tray, a name of another length than planned or that is
+ * not UTF-8; then 15 for a tray without a cookie; then 10.
  */
-uint32_t ntske_write_reply(const size_t *plan, size_t plan_len, const uint8_t *tray, size_t tray_len, const uint8_t *server, size_t server_len, uint8_t *out, size_t out_len,
-                           size_t *written, size_t written_len);
-
-/* The reply that no protocol is agreed on, that no algorithm is, and that tells an error. Refusals: 10. */
-uint32_t ntske_write_no_protocol(uint8_t *out, size_t out_len, size_t *written, size_t written_len);
-uint32_t ntske_write_no_algorithm(uint16_t protocol, uint8_t *out, size_t out_len, size_t *written, size_t written_len);
-uint32_t ntske_write_error(uint16_t code, uint8_t *out, size_t out_len, size_t *written, size_t written_len);
+uint64_t ntske_write_reply(const struct ntske_plan *plan, const uint8_t *tray, size_t tray_len,
+                           const uint8_t *server, size_t server_len, uint8_t *out, size_t out_len,
+                           size_t *written);
 
 /*
- * A support reply, and its exact length. `asked` is the sum of 1 for algorithms, 2 for protocols and 4 for keep-alive; a pair is two cells, an algorithm and its key size.
- * Refusals: 9 for another number or an odd number of cells of pairs; then 8 for a list that is to be written; then, of the writer, 10.
+ * The replies that no protocol is agreed on, that a protocol is but no algorithm, and that there is
+ * an error: 8, 14 and 10 bytes long. Refusals: 10.
  */
-uint32_t ntske_write_support(uint8_t asked, const uint16_t *pairs, size_t pairs_len, const uint16_t *protocols, size_t protocols_len, uint8_t *out, size_t out_len, size_t *written,
-                             size_t written_len);
-uint32_t ntske_support_length(uint8_t asked, const uint16_t *pairs, size_t pairs_len, const uint16_t *protocols, size_t protocols_len, size_t *length, size_t length_len);
+uint64_t ntske_write_no_protocol(uint8_t *out, size_t out_len, size_t *written);
+uint64_t ntske_write_no_algorithm(uint16_t protocol, uint8_t *out, size_t out_len,
+                                  size_t *written);
+uint64_t ntske_write_error(uint16_t code, uint8_t *out, size_t out_len, size_t *written);
 
 /*
- * A key-exchange request, and its exact length. The names that are denied are the fields of a tray: each is the byte 2, its length in two bytes, the high one first, and the name.
- * Refusals: 9 for a tray whose used part is cut, exceeds it or holds another field, or for a name that is not UTF-8; then 8 for a list; then, of the writer, 10.
+ * A support reply, and its exact length. `asked` is a sum of NTSKE_ALGORITHMS, NTSKE_PROTOCOLS and
+ * NTSKE_KEEP_ALIVE, or 0; a pair is two cells, an algorithm and its key size. Refusals: 9 for
+ * another number, or an odd number of cells of pairs; then 8 for a list that is to be written;
+ * then, of the writer, 10.
  */
-uint32_t ntske_write_request(const uint16_t *protocols, size_t protocols_len, const uint16_t *algorithms, size_t algorithms_len, const uint8_t *tray, size_t tray_len, size_t used,
-                             uint8_t *out, size_t out_len, size_t *written, size_t written_len);
-uint32_t ntske_request_length(const uint16_t *protocols, size_t protocols_len, const uint16_t *algorithms, size_t algorithms_len, const uint8_t *tray, size_t tray_len, size_t used,
-                              size_t *length, size_t length_len);
+uint64_t ntske_write_support_reply(uint8_t asked, const uint16_t *pairs, size_t pairs_len,
+                                   const uint16_t *protocols, size_t protocols_len, uint8_t *out,
+                                   size_t out_len, size_t *written);
+uint64_t ntske_support_reply_length(uint8_t asked, const uint16_t *pairs, size_t pairs_len,
+                                    const uint16_t *protocols, size_t protocols_len,
+                                    size_t *length);
 
 /*
- * One record, and its exact length. Seven cells tell it, as ntske_read_record gives them: kind, the critical bit of an unknown kind, a number, start and length of the body or of the
- * first key, start and length of the second key. Parts lie in `source`; parts that a kind does not have are not looked at.
- * Refusals: 9 for fewer cells, a kind above 32,767, and, whatever the kind is, a bit that is neither 0 nor 1 and a number above 65,535; for what is no record (a part outside the
- * source, a list of an odd length, pairs whose length is no multiple of 4, a name that is not UTF-8, keys of unequal length); then 8; then, of the writer, 10.
+ * A denied name more in the tray of a request, behind the `*used` bytes of it (0 before the first),
+ * which count that field too afterwards; of the tray only that field's bytes change. Refusals: 9
+ * for a tray whose used part is cut, exceeds it or holds anything but denied names, or for a name
+ * that is not UTF-8; then 8; then 10 for no room.
  */
-uint32_t ntske_write_record(const size_t *item, size_t item_len, const uint8_t *source, size_t source_len, uint8_t *out, size_t out_len, size_t *written, size_t written_len);
-uint32_t ntske_record_length(const size_t *item, size_t item_len, const uint8_t *source, size_t source_len, size_t *length, size_t length_len);
+uint64_t ntske_append_denied(const uint8_t *name, size_t name_len, uint8_t *tray, size_t tray_len,
+                             size_t *used);
+
+/*
+ * A key-exchange request with the names of a tray, and its exact length. Refusals: 9 for a tray
+ * that is broken as above or holds a name that is not UTF-8; then 8 for a list; then, of the
+ * writer, 10.
+ */
+uint64_t ntske_write_request(const uint16_t *protocols, size_t protocols_len,
+                             const uint16_t *algorithms, size_t algorithms_len,
+                             const uint8_t *tray, size_t tray_len, size_t used, uint8_t *out,
+                             size_t out_len, size_t *written);
+uint64_t ntske_request_length(const uint16_t *protocols, size_t protocols_len,
+                              const uint16_t *algorithms, size_t algorithms_len,
+                              const uint8_t *tray, size_t tray_len, size_t used, size_t *length);
+
+/*
+ * One record, and its exact length; its parts lie in `source`. The critical bit of a known kind is
+ * the one that belongs to it. Refusals: 9 for a kind above 32,767 and, whatever the kind is, a
+ * `critical` that is neither 0 nor 1 or a `number` above 65,535; for a part that is not inside the
+ * source, a list of an odd length, pairs whose length is no multiple of 4, a name that is not
+ * UTF-8, keys of unequal length; then 8; then, of the writer, 10.
+ */
+uint64_t ntske_write_record(const struct ntske_record *item, const uint8_t *source,
+                            size_t source_len, uint8_t *out, size_t out_len, size_t *written);
+uint64_t ntske_record_length(const struct ntske_record *item, const uint8_t *source,
+                             size_t source_len, size_t *length);
 
 #ifdef __cplusplus
 }

@@ -6,11 +6,11 @@ use std::hint::black_box;
 pub fn print() {
     println!("# the least time of many batches, in nanoseconds");
     let mut table = vec![0; 2 * inputs::MOST_NAMES];
-    let mut answer = [0; ours::CELLS];
+    let mut answers = ours::Answers::default();
     for names in [0, 1, 10, 100, 500, 1000, 2000] {
         let message = inputs::request(names);
         let time = clock::least(|| {
-            black_box(ours::read_request(black_box(&message), &mut table, &mut answer));
+            black_box(ours::read_request(black_box(&message), &mut table, &mut answers));
         });
         let each = time / (names + 3) as f64;
         println!("growth request names {names} bytes {} ns {time:.0} a record {each:.1}", message.len());
@@ -27,7 +27,7 @@ pub fn print() {
         let message = inputs::cookie_record(size);
         let mut out = vec![0; message.len()];
         let time = clock::least(|| {
-            black_box(ours::copy_record(black_box(&message), black_box(&mut out), &mut answer, &mut written));
+            black_box(ours::copy_record(black_box(&message), black_box(&mut out), &mut answers, &mut written));
         });
         println!("growth record bytes {size} ns {time:.0} a kilobyte {:.1}", time * 1024.0 / f64::from(size));
     }

@@ -38,7 +38,7 @@ fn main() {
 /// raised limit.
 fn requests() {
     let mut table = vec![0; 2 * inputs::MOST_NAMES];
-    let mut answer = [0; ours::CELLS];
+    let mut answers = ours::Answers::default();
     let rows = [
         ("request16", inputs::request(0), 8.0),
         ("unknown200", inputs::unknown(), 8.0),
@@ -54,7 +54,7 @@ fn requests() {
             name,
             bar,
             || {
-                black_box(ours::read_request(black_box(&message), &mut table, &mut answer));
+                black_box(ours::read_request(black_box(&message), &mut table, &mut answers));
             },
             || {
                 black_box(theirs::read_request(black_box(&message), long));
@@ -67,7 +67,7 @@ fn requests() {
 fn replies() {
     let message = inputs::reply();
     let mut table = [0; 2 * inputs::COOKIES];
-    let mut answer = [0; ours::CELLS];
+    let mut answers = ours::Answers::default();
     for cut in inputs::cuts(&message) {
         clock::same("reply8", ours::reply(cut, &mut table), theirs::reply(cut));
     }
@@ -75,7 +75,7 @@ fn replies() {
         "reply8",
         11.0,
         || {
-            black_box(ours::read_reply(black_box(&message), &mut table, &mut answer));
+            black_box(ours::read_reply(black_box(&message), &mut table, &mut answers));
         },
         || {
             let _ = black_box(theirs::read_reply(black_box(&message)));
@@ -103,25 +103,33 @@ fn replies() {
     );
 }
 
-/// A cookie record of 1,000 bytes, read and written.
+/// Where what is copied stands in a page. How fast a copy is depends on the low twelve bits of both addresses, by half here, and an
+/// allocator gives any.
+#[repr(align(4096))]
+struct Page([u8; 4096]);
+
+/// A cookie record of 1,000 bytes, read and written: from a page's front to its byte 2,560.
 fn records() {
-    let message = inputs::record();
-    let mut answer = [0; ours::CELLS];
-    let (mut mine, mut crates) = (vec![0; message.len()], Vec::new());
-    let mut written = [0];
-    let refusal = ours::copy_record(&message, &mut mine, &mut answer, &mut written);
-    theirs::copy_record(&message, &mut crates);
+    let bytes = inputs::record();
+    let mut page = Box::new(Page([0; 4096]));
+    page.0[..bytes.len()].copy_from_slice(&bytes);
+    let (first, second) = page.0.split_at_mut(2560);
+    let (message, mine) = (&first[..bytes.len()], &mut second[..bytes.len()]);
+    let mut answers = ours::Answers::default();
+    let (mut crates, mut written) = (Vec::new(), [0]);
+    let refusal = ours::copy_record(message, mine, &mut answers, &mut written);
+    theirs::copy_record(message, &mut crates);
     clock::same("record1000", (refusal, written), (0, [message.len()]));
-    clock::same("record1000", [&mine, &mine], [&crates, &message]);
+    clock::same("record1000", [&*mine, &*mine], [&crates[..], message]);
     row(
         "record1000",
         3.0,
         || {
-            black_box(ours::copy_record(black_box(&message), black_box(&mut mine), &mut answer, &mut written));
+            black_box(ours::copy_record(black_box(message), black_box(&mut *mine), &mut answers, &mut written));
         },
         || {
             crates.clear();
-            theirs::copy_record(black_box(&message), &mut crates);
+            theirs::copy_record(black_box(message), &mut crates);
             black_box(&mut crates);
         },
     );

@@ -1,8 +1,8 @@
 /*
  * Calls every function of include/ntske.h on good and bad input, and looks at what is returned and at every byte that was lent: what is answered, what is
- * written, and that all else is as it was, on every refusal too. Each call is made with too few cells for the answer, with just as many and with more,
- * and each writer with an output that is too short, just long enough and longer. All is run twice: with guard bytes around each buffer, and with each
- * buffer at the end of a page that no page follows. The expected bytes are worked out by hand from document 01.
+ * written, and that all else is as it was; on every refusal all is as it was. Each writer is called with an output that is too short, just long enough
+ * and longer. All is run twice: with guard bytes around each buffer, and with each buffer at the end of a page that no page follows. The expected bytes
+ * are worked out by hand from document 01.
  * The last line is 'N checks, M failed'; the status is 0 only for M = 0.
  */
 #define _DEFAULT_SOURCE
@@ -30,19 +30,67 @@ static void check(int holds, const char *what, const char *of, size_t more)
 
 struct bytes { size_t n; const uint8_t *p; };
 struct words { size_t n; const uint16_t *p; };
-struct cells { size_t n; const size_t *p; };
 
 #define WORDS(...) ((struct words){sizeof((uint16_t[]){__VA_ARGS__}) / sizeof(uint16_t), (uint16_t[]){__VA_ARGS__}})
-#define CELLS(...) ((struct cells){sizeof((size_t[]){__VA_ARGS__}) / sizeof(size_t), (size_t[]){__VA_ARGS__}})
 #define NO_BYTES ((struct bytes){0, NULL})
 #define NO_WORDS ((struct words){0, NULL})
-#define NO_CELLS ((struct cells){0, NULL})
+#define PART(at, n) ((struct ntske_range){.start = (at), .len = (n)})
+#define REPLY(...) ((struct ntske_reply){__VA_ARGS__})
+#define ITEM(...) ((struct ntske_record){__VA_ARGS__})
+#define LISTED(...) ((struct ntske_listed){__VA_ARGS__})
+#define CHOICE(...) ((struct ntske_choice){__VA_ARGS__})
+#define PLAN(...) ((struct ntske_plan){__VA_ARGS__})
 
-/* A reader's refusal: its place, and whether a number is beside it. */
-#define AT(place) CELLS(place, 0, 0, 0, 0, 0, 0, 0, 0, 0)
-#define AT_WITH(place, number) CELLS(place, 1, number, 0, 0, 0, 0, 0, 0, 0)
+/* A reader's refusal: its number, the number beside it, and its place. */
+static uint64_t with(unsigned number, unsigned beside, unsigned long place)
+{
+    return number + ((uint64_t)beside << 16) + ((uint64_t)place << 32);
+}
 
-static uint8_t arena[1 << 21];
+static uint64_t at(unsigned number, unsigned long place)
+{
+    return with(number, 0, place);
+}
+
+/* What a request's reader answers. */
+static struct ntske_request key_exchange(struct ntske_range protocols, struct ntske_range algorithms, size_t denied)
+{
+    struct ntske_request x;
+    memset(&x, 0, sizeof x);
+    x.sort = NTSKE_KEY_EXCHANGE;
+    x.key_exchange.protocols = protocols;
+    x.key_exchange.algorithms = algorithms;
+    x.key_exchange.denied = denied;
+    return x;
+}
+
+static struct ntske_request fixed_key(struct ntske_range authentication, struct ntske_range c2s, struct ntske_range s2c, size_t algorithm, size_t protocol)
+{
+    struct ntske_request x;
+    memset(&x, 0, sizeof x);
+    x.sort = NTSKE_FIXED_KEY;
+    x.fixed_key.authentication = authentication;
+    x.fixed_key.c2s = c2s;
+    x.fixed_key.s2c = s2c;
+    x.fixed_key.algorithm = algorithm;
+    x.fixed_key.protocol = protocol;
+    x.fixed_key.keep_alive = 1;
+    return x;
+}
+
+static struct ntske_request support(struct ntske_range authentication, size_t wants_protocols, size_t wants_algorithms, size_t keep_alive)
+{
+    struct ntske_request x;
+    memset(&x, 0, sizeof x);
+    x.sort = NTSKE_SUPPORT;
+    x.support.authentication = authentication;
+    x.support.wants_protocols = wants_protocols;
+    x.support.wants_algorithms = wants_algorithms;
+    x.support.keep_alive = keep_alive;
+    return x;
+}
+
+static uint8_t arena[1 << 22];
 static size_t taken;
 
 static uint8_t *take(size_t n)
@@ -67,6 +115,12 @@ static struct bytes H(const char *text)
         digits++;
     }
     return (struct bytes){digits / 2, p};
+}
+
+/* The bytes of a text. */
+static struct bytes T(const char *text)
+{
+    return (struct bytes){strlen(text), (const uint8_t *)text};
 }
 
 static struct bytes join(struct bytes a, struct bytes b)
@@ -138,11 +192,11 @@ static void becomes(const void *memory, size_t offset, const void *data, size_t 
 }
 
 /* After a call: what it returned, what each lent buffer holds, and the guards. All is then taken back. */
-static void after(const char *what, uint32_t got, uint32_t want)
+static void after(const char *what, uint64_t got, uint64_t want)
 {
-    check(got == want, what, "returned", got);
-    if (want < 16)
-        seen[want]++;
+    check(got == want, what, "returned", (size_t)got);
+    if (want != NTSKE_OK && ntske_refusal(want) < 16)
+        seen[ntske_refusal(want)]++;
     for (int i = 0; i < lents; i++) {
         struct lent *x = &lent[i];
         check(memcmp(x->at, x->want, x->size) == 0, what, "lent memory differs", (size_t)i);
@@ -158,178 +212,188 @@ static void after(const char *what, uint32_t got, uint32_t want)
     lents = 0;
 }
 
-/* How many cells are lent where some are needed: too few twice, just as many, and more. */
-static size_t cells_lent(size_t needed, int i)
-{
-    return i == 0 ? needed : i == 1 ? needed + 2 : i == 2 ? needed - 1 : 0;
-}
-enum { WAYS = 4 };
-
-static size_t *lend_cells(size_t n)
-{
-    return lend(NULL, n * sizeof(size_t));
-}
-
-static void become_cells(size_t *memory, struct cells x)
-{
-    becomes(memory, 0, x.p, x.n * sizeof(size_t));
-}
-
 /* ---- reading ---- */
 
-static void message(const char *what, int reply, struct bytes m, uint16_t limit, size_t room, uint32_t want, struct cells answer, struct words table)
+/* What is read, and under which limit and with how many cells of a table; the answer is looked at where it is accepted. */
+static void request(const char *what, struct bytes m, uint16_t limit, size_t cells, uint64_t want, struct ntske_request answer, struct words table)
 {
-    for (int i = 0; i < WAYS; i++) {
-        size_t n = cells_lent(NTSKE_ANSWER, i);
-        uint8_t *lent_m = lend(m.p, m.n);
-        uint16_t *lent_t = lend(NULL, room * sizeof(uint16_t));
-        size_t *a = lend_cells(n);
-        uint32_t got = reply ? ntske_read_reply(lent_m, m.n, limit, lent_t, room, a, n) : ntske_read_request(lent_m, m.n, limit, lent_t, room, a, n);
-        if (n >= NTSKE_ANSWER) {
-            become_cells(a, answer);
-            becomes(lent_t, 0, table.p, table.n * sizeof(uint16_t));
-        }
-        after(what, got, n < NTSKE_ANSWER ? 10 : want);
+    uint8_t *lent_m = lend(m.p, m.n);
+    uint16_t *t = lend(NULL, cells * sizeof(uint16_t));
+    struct ntske_request *a = lend(NULL, sizeof *a);
+    uint64_t got = ntske_read_request(lent_m, m.n, limit, t, cells, a);
+    if (want == NTSKE_OK) {
+        becomes(a, 0, &answer, sizeof answer);
+        becomes(t, 0, table.p, table.n * sizeof(uint16_t));
     }
+    after(what, got, want);
 }
 
-static void request(const char *what, struct bytes m, uint16_t limit, size_t room, uint32_t want, struct cells answer, struct words table)
+static void request_refused(const char *what, struct bytes m, uint16_t limit, size_t cells, uint64_t want)
 {
-    message(what, 0, m, limit, room, want, answer, table);
+    request(what, m, limit, cells, want, support(PART(0, 0), 0, 0, 0), NO_WORDS);
 }
 
-static void reply(const char *what, struct bytes m, uint16_t limit, size_t room, uint32_t want, struct cells answer, struct words table)
+static void reply(const char *what, struct bytes m, uint16_t limit, size_t cells, uint64_t want, struct ntske_reply answer, struct words table)
 {
-    message(what, 1, m, limit, room, want, answer, table);
-}
-
-static void record(const char *what, struct bytes m, size_t place, uint32_t want, struct cells answer)
-{
-    for (int i = 0; i < WAYS; i++) {
-        size_t n = cells_lent(NTSKE_ANSWER, i);
-        uint8_t *lent_m = lend(m.p, m.n);
-        size_t *a = lend_cells(n);
-        uint32_t got = ntske_read_record(lent_m, m.n, place, a, n);
-        if (n >= NTSKE_ANSWER)
-            become_cells(a, answer);
-        after(what, got, n < NTSKE_ANSWER ? 10 : want);
+    uint8_t *lent_m = lend(m.p, m.n);
+    uint16_t *t = lend(NULL, cells * sizeof(uint16_t));
+    struct ntske_reply *a = lend(NULL, sizeof *a);
+    uint64_t got = ntske_read_reply(lent_m, m.n, limit, t, cells, a);
+    if (want == NTSKE_OK) {
+        becomes(a, 0, &answer, sizeof answer);
+        becomes(t, 0, table.p, table.n * sizeof(uint16_t));
     }
+    after(what, got, want);
 }
 
-static void part(struct bytes m, size_t start, size_t len, struct cells answer)
+static void reply_refused(const char *what, struct bytes m, uint16_t limit, size_t cells, uint64_t want)
 {
-    for (int i = 0; i < WAYS; i++) {
-        size_t n = cells_lent(2, i);
-        uint8_t *lent_m = lend(m.p, m.n);
-        size_t *a = lend_cells(n);
-        uint32_t got = ntske_part(lent_m, m.n, start, len, a, n);
-        if (n >= 2)
-            become_cells(a, answer);
-        after("a part", got, n < 2 ? 10 : 0);
-    }
+    reply(what, m, limit, cells, want, REPLY(.cookies = 0), NO_WORDS);
 }
 
-static void entry(struct bytes m, struct words table, size_t index, struct cells answer)
+static void record(const char *what, struct bytes m, size_t place, uint64_t want, struct ntske_record item, size_t next)
 {
-    for (int i = 0; i < WAYS; i++) {
-        size_t n = cells_lent(2, i);
-        uint8_t *lent_m = lend(m.p, m.n);
-        uint16_t *lent_t = lend(table.p, table.n * sizeof(uint16_t));
-        size_t *a = lend_cells(n);
-        uint32_t got = ntske_entry(lent_m, m.n, lent_t, table.n, index, a, n);
-        if (n >= 2)
-            become_cells(a, answer);
-        after("an entry", got, n < 2 ? 10 : 0);
-    }
+    struct ntske_record_read answer = {item, next};
+    uint8_t *lent_m = lend(m.p, m.n);
+    struct ntske_record_read *a = lend(NULL, sizeof *a);
+    uint64_t got = ntske_read_record(lent_m, m.n, place, a);
+    if (want == NTSKE_OK)
+        becomes(a, 0, &answer, sizeof answer);
+    after(what, got, want);
 }
 
-static void number(int pair, struct bytes m, size_t start, size_t len, size_t index, struct cells answer)
+static void record_refused(const char *what, struct bytes m, size_t place, uint64_t want)
 {
-    for (int i = 0; i < WAYS; i++) {
-        size_t n = cells_lent(3, i);
-        uint8_t *lent_m = lend(m.p, m.n);
-        size_t *a = lend_cells(n);
-        uint32_t got = pair ? ntske_pair(lent_m, m.n, start, len, index, a, n) : ntske_number(lent_m, m.n, start, len, index, a, n);
-        if (n >= 3)
-            become_cells(a, answer);
-        after(pair ? "a pair" : "a number", got, n < 3 ? 10 : 0);
-    }
+    record(what, m, place, want, ITEM(.kind = 0), 0);
 }
 
-static void utf8(struct bytes x, uint32_t want)
+static void part(struct bytes m, size_t start, size_t len, struct ntske_range answer)
+{
+    uint8_t *lent_m = lend(m.p, m.n);
+    struct ntske_range *a = lend(NULL, sizeof *a);
+    uint64_t got = ntske_part(lent_m, m.n, start, len, a);
+    becomes(a, 0, &answer, sizeof answer);
+    after("a part", got, NTSKE_OK);
+}
+
+static void entry(struct bytes m, struct words table, size_t index, struct ntske_range answer)
+{
+    uint8_t *lent_m = lend(m.p, m.n);
+    uint16_t *t = lend(table.p, table.n * sizeof(uint16_t));
+    struct ntske_range *a = lend(NULL, sizeof *a);
+    uint64_t got = ntske_entry(lent_m, m.n, t, table.n, index, a);
+    becomes(a, 0, &answer, sizeof answer);
+    after("an entry", got, NTSKE_OK);
+}
+
+static void number(int pair, struct bytes m, size_t start, size_t len, size_t index, struct ntske_listed answer)
+{
+    uint8_t *lent_m = lend(m.p, m.n);
+    struct ntske_listed *a = lend(NULL, sizeof *a);
+    uint64_t got = pair ? ntske_pair(lent_m, m.n, start, len, index, a) : ntske_number(lent_m, m.n, start, len, index, a);
+    becomes(a, 0, &answer, sizeof answer);
+    after(pair ? "a pair" : "a number", got, NTSKE_OK);
+}
+
+static void utf8(struct bytes x, uint64_t want)
 {
     uint8_t *lent_x = lend(x.p, x.n);
-    uint32_t got = ntske_is_utf8(lent_x, x.n);
-    check(got == want, "UTF-8", "returned", got);
-    after("UTF-8", 0, 0);
+    uint64_t got = ntske_is_utf8(lent_x, x.n);
+    check(got == want, "UTF-8", "returned", (size_t)got);
+    after("UTF-8", NTSKE_OK, NTSKE_OK);
 }
 
-static void choose(const char *what, struct bytes protocols, struct bytes algorithms, struct words own_protocols, struct words own_algorithms, uint32_t want,
-                   struct cells answer)
+/* ---- choosing ---- */
+
+static void choose(const char *what, struct bytes protocols, struct bytes algorithms, struct words own_protocols, struct words own_algorithms, uint64_t want,
+                   struct ntske_choice answer)
 {
-    for (int i = 0; i < WAYS; i++) {
-        size_t n = cells_lent(2, i);
-        uint8_t *p = lend(protocols.p, protocols.n), *q = lend(algorithms.p, algorithms.n);
-        uint16_t *own_p = lend(own_protocols.p, 2 * own_protocols.n), *own_q = lend(own_algorithms.p, 2 * own_algorithms.n);
-        size_t *a = lend_cells(n);
-        uint32_t got = ntske_choose(p, protocols.n, q, algorithms.n, own_p, own_protocols.n, own_q, own_algorithms.n, a, n);
-        if (n >= 2)
-            become_cells(a, answer);
-        after(what, got, n < 2 ? 10 : want);
-    }
+    uint8_t *p = lend(protocols.p, protocols.n), *q = lend(algorithms.p, algorithms.n);
+    uint16_t *own_p = lend(own_protocols.p, 2 * own_protocols.n), *own_q = lend(own_algorithms.p, 2 * own_algorithms.n);
+    struct ntske_choice *a = lend(NULL, sizeof *a);
+    uint64_t got = ntske_choose(p, protocols.n, q, algorithms.n, own_p, own_protocols.n, own_q, own_algorithms.n, a);
+    if (want == NTSKE_OK)
+        becomes(a, 0, &answer, sizeof answer);
+    after(what, got, want);
+}
+
+static void choose_protocol(const char *what, struct bytes protocols, struct words own, uint64_t want, size_t answer)
+{
+    uint8_t *p = lend(protocols.p, protocols.n);
+    uint16_t *own_p = lend(own.p, 2 * own.n);
+    size_t *a = lend(NULL, sizeof *a);
+    uint64_t got = ntske_choose_protocol(p, protocols.n, own_p, own.n, a);
+    if (want == NTSKE_OK)
+        becomes(a, 0, &answer, sizeof answer);
+    after(what, got, want);
+}
+
+static void key_length(uint16_t algorithm, uint64_t want, size_t answer)
+{
+    size_t *a = lend(NULL, sizeof *a);
+    uint64_t got = ntske_key_length(algorithm, a);
+    if (want == NTSKE_OK)
+        becomes(a, 0, &answer, sizeof answer);
+    after("a key's length", got, want);
 }
 
 /* ---- the plan ---- */
 
-static void plan_new(uint16_t protocol, uint16_t algorithm, struct cells plan)
+static void plan_new(uint16_t protocol, uint16_t algorithm, struct ntske_plan plan)
 {
-    for (int i = 0; i < WAYS; i++) {
-        size_t n = cells_lent(NTSKE_PLAN, i);
-        size_t *p = lend_cells(n);
-        uint32_t got = ntske_plan_new(protocol, algorithm, p, n);
-        if (n >= NTSKE_PLAN)
-            become_cells(p, plan);
-        after("a plan is started", got, n < NTSKE_PLAN ? 10 : 0);
-    }
+    struct ntske_plan *p = lend(NULL, sizeof *p);
+    uint64_t got = ntske_plan_new(protocol, algorithm, p);
+    becomes(p, 0, &plan, sizeof plan);
+    after("a plan is started", got, NTSKE_OK);
 }
 
 enum change { SET_PORT, CLEAR_PORT, SET_NAME, CLEAR_NAME, SET_KEEP_ALIVE, CLEAR_KEEP_ALIVE, CHANGES };
 
-static uint32_t changed(enum change change, size_t *p, size_t n, uint16_t x)
+static uint64_t changed(enum change change, struct ntske_plan *p, uint16_t x)
 {
     switch (change) {
-    case SET_PORT: return ntske_plan_set_port(p, n, x);
-    case CLEAR_PORT: return ntske_plan_clear_port(p, n);
-    case SET_NAME: return ntske_plan_set_name_length(p, n, x);
-    case CLEAR_NAME: return ntske_plan_clear_name_length(p, n);
-    case SET_KEEP_ALIVE: return ntske_plan_set_keep_alive(p, n);
-    default: return ntske_plan_clear_keep_alive(p, n);
+    case SET_PORT: return ntske_plan_set_port(p, x);
+    case CLEAR_PORT: return ntske_plan_clear_port(p);
+    case SET_NAME: return ntske_plan_set_name_length(p, x);
+    case CLEAR_NAME: return ntske_plan_clear_name_length(p);
+    case SET_KEEP_ALIVE: return ntske_plan_set_keep_alive(p);
+    default: return ntske_plan_clear_keep_alive(p);
     }
 }
 
-/* Changes a plan of eight cells, of ten, of seven and of none. */
-static void change(const char *what, enum change change, struct cells plan, uint16_t x, uint32_t want, struct cells then)
+static void change(const char *what, enum change change, struct ntske_plan plan, uint16_t x, uint64_t want, struct ntske_plan then)
 {
-    for (int i = 0; i < WAYS; i++) {
-        size_t n = cells_lent(NTSKE_PLAN, i), cells[NTSKE_PLAN + 2] = {0};
-        memcpy(cells, plan.p, plan.n * sizeof(size_t));
-        cells[8] = 77, cells[9] = SIZE_MAX;
-        size_t *p = lend(cells, n * sizeof(size_t));
-        uint32_t got = changed(change, p, n, x);
-        if (n >= NTSKE_PLAN)
-            become_cells(p, then);
-        after(what, got, n < NTSKE_PLAN ? 9 : want);
-    }
+    struct ntske_plan *p = lend(&plan, sizeof plan);
+    uint64_t got = changed(change, p, x);
+    becomes(p, 0, &then, sizeof then);
+    after(what, got, want);
 }
 
-/* Appends a cookie; `field` is what the tray has from `used` on afterwards. */
-static void append(const char *what, struct cells plan, struct bytes cookie, struct bytes tray, uint32_t want, struct cells then, size_t used, struct bytes field)
+/* Appends a cookie; `field` is what the tray has behind its used part afterwards. */
+static void append(const char *what, struct ntske_plan plan, struct bytes cookie, struct bytes tray, uint64_t want, struct bytes field)
 {
-    size_t *p = lend(plan.p, plan.n * sizeof(size_t));
+    struct ntske_plan *p = lend(&plan, sizeof plan);
     uint8_t *c = lend(cookie.p, cookie.n), *t = lend(tray.p, tray.n);
-    uint32_t got = ntske_plan_append(p, plan.n, c, cookie.n, t, tray.n);
-    become_cells(p, then);
-    becomes(t, used, field.p, field.n);
+    uint64_t got = ntske_plan_append(p, c, cookie.n, t, tray.n);
+    if (want == NTSKE_OK) {
+        becomes(t, plan.used, field.p, field.n);
+        plan.used += field.n;
+        becomes(p, 0, &plan, sizeof plan);
+    }
+    after(what, got, want);
+}
+
+/* Appends a denied name, likewise. */
+static void deny(const char *what, size_t used, struct bytes name, struct bytes tray, uint64_t want, struct bytes field)
+{
+    size_t *u = lend(&used, sizeof used);
+    uint8_t *n = lend(name.p, name.n), *t = lend(tray.p, tray.n);
+    uint64_t got = ntske_append_denied(n, name.n, t, tray.n, u);
+    if (want == NTSKE_OK) {
+        becomes(t, used, field.p, field.n);
+        used += field.n;
+        becomes(u, 0, &used, sizeof used);
+    }
     after(what, got, want);
 }
 
@@ -337,89 +401,95 @@ static void append(const char *what, struct cells plan, struct bytes cookie, str
 
 /* What a writer is called with; each uses what it has arguments for. */
 struct given {
-    struct cells cells;
-    struct bytes tray, name;
+    struct ntske_plan plan;
+    struct ntske_record item;
+    struct bytes tray, name; /* of a record the source; of a listing the message */
     struct words first, second;
     size_t used;
     uint16_t number;
 };
 
-enum writer { REPLY, NO_PROTOCOL, NO_ALGORITHM, ERROR, SUPPORT, REQUEST, RECORD };
+enum writer { WRITE_REPLY, NO_PROTOCOL, NO_ALGORITHM, ERROR, SUPPORT, REQUEST, RECORD, LIST };
 
 /* Calls a writer, or where `out` is NULL its length. */
-static uint32_t call(enum writer writer, const struct given *x, uint8_t *out, size_t out_len, size_t *count, size_t count_len)
+static uint64_t call(enum writer writer, const struct given *x, uint8_t *out, size_t out_len, size_t *count)
 {
-    const size_t *c = NULL;
+    const struct ntske_plan *p = NULL;
+    const struct ntske_record *r = NULL;
     const uint8_t *t = NULL, *s = NULL;
     const uint16_t *a = NULL, *b = NULL;
     switch (writer) {
-    case REPLY:
-        c = lend(x->cells.p, x->cells.n * sizeof(size_t)), t = lend(x->tray.p, x->tray.n);
+    case WRITE_REPLY:
+        p = lend(&x->plan, sizeof x->plan), t = lend(x->tray.p, x->tray.n);
         if (!out)
-            return ntske_plan_length(c, x->cells.n, t, x->tray.n, count, count_len);
+            return ntske_plan_length(p, t, x->tray.n, count);
         s = lend(x->name.p, x->name.n);
-        return ntske_write_reply(c, x->cells.n, t, x->tray.n, s, x->name.n, out, out_len, count, count_len);
-    case NO_PROTOCOL: return ntske_write_no_protocol(out, out_len, count, count_len);
-    case NO_ALGORITHM: return ntske_write_no_algorithm(x->number, out, out_len, count, count_len);
-    case ERROR: return ntske_write_error(x->number, out, out_len, count, count_len);
+        return ntske_write_reply(p, t, x->tray.n, s, x->name.n, out, out_len, count);
+    case NO_PROTOCOL: return ntske_write_no_protocol(out, out_len, count);
+    case NO_ALGORITHM: return ntske_write_no_algorithm(x->number, out, out_len, count);
+    case ERROR: return ntske_write_error(x->number, out, out_len, count);
     case SUPPORT:
         a = lend(x->first.p, 2 * x->first.n), b = lend(x->second.p, 2 * x->second.n);
         if (!out)
-            return ntske_support_length((uint8_t)x->number, a, x->first.n, b, x->second.n, count, count_len);
-        return ntske_write_support((uint8_t)x->number, a, x->first.n, b, x->second.n, out, out_len, count, count_len);
+            return ntske_support_reply_length((uint8_t)x->number, a, x->first.n, b, x->second.n, count);
+        return ntske_write_support_reply((uint8_t)x->number, a, x->first.n, b, x->second.n, out, out_len, count);
     case REQUEST:
         a = lend(x->first.p, 2 * x->first.n), b = lend(x->second.p, 2 * x->second.n), t = lend(x->tray.p, x->tray.n);
         if (!out)
-            return ntske_request_length(a, x->first.n, b, x->second.n, t, x->tray.n, x->used, count, count_len);
-        return ntske_write_request(a, x->first.n, b, x->second.n, t, x->tray.n, x->used, out, out_len, count, count_len);
-    default:
-        c = lend(x->cells.p, x->cells.n * sizeof(size_t)), s = lend(x->tray.p, x->tray.n);
+            return ntske_request_length(a, x->first.n, b, x->second.n, t, x->tray.n, x->used, count);
+        return ntske_write_request(a, x->first.n, b, x->second.n, t, x->tray.n, x->used, out, out_len, count);
+    case RECORD:
+        r = lend(&x->item, sizeof x->item), s = lend(x->tray.p, x->tray.n);
         if (!out)
-            return ntske_record_length(c, x->cells.n, s, x->tray.n, count, count_len);
-        return ntske_write_record(c, x->cells.n, s, x->tray.n, out, out_len, count, count_len);
+            return ntske_record_length(r, s, x->tray.n, count);
+        return ntske_write_record(r, s, x->tray.n, out, out_len, count);
+    default:
+        t = lend(x->tray.p, x->tray.n);
+        return ntske_list(t, x->tray.n, x->number, x->used, out, out_len, count);
     }
 }
 
-/* A writer that writes `bytes`, or refuses, with outputs and cells of several lengths. */
-static void writes(const char *what, enum writer writer, struct given x, uint32_t want, struct bytes bytes)
+/* A writer that writes `bytes`, or refuses, with outputs of several lengths. */
+static void writes(const char *what, enum writer writer, struct given x, uint64_t want, struct bytes bytes)
 {
     size_t sizes[] = {bytes.n, bytes.n + 5, bytes.n ? bytes.n - 1 : 0, 0};
-    for (int i = 0; i < WAYS; i++)
-        for (size_t n = 0; n < 4; n++) {
-            uint8_t *out = lend(NULL, sizes[i]);
-            size_t *count = lend_cells(n);
-            uint32_t told = n == 0 ? 10 : want != 0 ? want : sizes[i] < bytes.n ? 10 : 0;
-            uint32_t got = call(writer, &x, out, sizes[i], count, n);
-            if (told == 0) {
-                becomes(out, 0, bytes.p, bytes.n);
-                become_cells(count, CELLS(bytes.n));
-            }
-            after(what, got, told);
+    for (size_t i = 0; i < sizeof sizes / sizeof *sizes; i++) {
+        uint8_t *out = lend(NULL, sizes[i]);
+        size_t *count = lend(NULL, sizeof *count);
+        uint64_t told = want != NTSKE_OK ? want : sizes[i] < bytes.n ? at(10, 0) : NTSKE_OK;
+        uint64_t got = call(writer, &x, out, sizes[i], count);
+        if (told == NTSKE_OK) {
+            becomes(out, 0, bytes.p, bytes.n);
+            becomes(count, 0, &bytes.n, sizeof bytes.n);
         }
-}
-
-/* The call for a length, with no cell, one and more. */
-static void measures(const char *what, enum writer writer, struct given x, uint32_t want, size_t length)
-{
-    for (size_t n = 0; n < 4; n++) {
-        size_t *count = lend_cells(n);
-        uint32_t told = n == 0 ? 10 : want;
-        uint32_t got = call(writer, &x, NULL, 0, count, n);
-        if (told == 0)
-            become_cells(count, CELLS(length));
         after(what, got, told);
     }
 }
 
-static void both(const char *what, enum writer writer, struct given x, uint32_t want, struct bytes bytes)
+/* The call for a length. */
+static void measures(const char *what, enum writer writer, struct given x, uint64_t want, size_t length)
+{
+    size_t *count = lend(NULL, sizeof *count);
+    uint64_t got = call(writer, &x, NULL, 0, count);
+    if (want == NTSKE_OK)
+        becomes(count, 0, &length, sizeof length);
+    after(what, got, want);
+}
+
+static void both(const char *what, enum writer writer, struct given x, uint64_t want, struct bytes bytes)
 {
     writes(what, writer, x, want, bytes);
     measures(what, writer, x, want, bytes.n);
 }
 
-static void item(const char *what, struct cells cells, struct bytes source, uint32_t want, struct bytes bytes)
+static void item(const char *what, struct ntske_record item, struct bytes source, uint64_t want, struct bytes bytes)
 {
-    both(what, RECORD, (struct given){.cells = cells, .tray = source}, want, bytes);
+    both(what, RECORD, (struct given){.item = item, .tray = source}, want, bytes);
+}
+
+static void list(const char *what, struct bytes m, uint16_t limit, size_t room, struct bytes text)
+{
+    writes(what, LIST, (struct given){.tray = m, .number = limit, .used = room}, NTSKE_OK, text);
 }
 
 /* ---- the cases ---- */
@@ -427,144 +497,152 @@ static void item(const char *what, struct cells cells, struct bytes source, uint
 static void reading(void)
 {
     struct bytes m = H("8001 0002 0000 8004 0002 000F 8000 0000");
-    struct cells read = CELLS(1, 4, 2, 10, 2, 0, 0, 0, 0, 0);
-    request("the request of document 01", m, 65535, 4, 0, read, NO_WORDS);
-    request("the same without a table", m, 65535, 0, 0, read, NO_WORDS);
+    struct ntske_request read = key_exchange(PART(4, 2), PART(10, 2), 0);
+    request("the request of document 01", m, NTSKE_LIMIT, 4, 0, read, NO_WORDS);
+    request("the same without a table", m, NTSKE_LIMIT, 0, 0, read, NO_WORDS);
     request("limit 16", m, 16, 4, 0, read, NO_WORDS);
-    request("limit 15", m, 15, 4, 1, AT(12), NO_WORDS);
-    request("limit 0", m, 0, 4, 1, AT(0), NO_WORDS);
-    request("no byte", NO_BYTES, 65535, 4, 1, AT(0), NO_WORDS);
-    request("no byte and limit 0", NO_BYTES, 0, 0, 1, AT(0), NO_WORDS);
-    request("an end alone", H("8000 0000"), 65535, 4, 4, AT(0), NO_WORDS);
-    request("the first bit clear", H("0001 0002 0000 8004 0002 000F 8000 0000"), 65535, 4, 0, read, NO_WORDS);
-    request("after an unknown record", join(H("000B 0000"), m), 65535, 4, 0, CELLS(1, 8, 2, 14, 2, 0, 0, 0, 0, 0), NO_WORDS);
-    request("after an unknown critical record", join(H("800B 0000"), m), 65535, 4, 3, AT(0), NO_WORDS);
-    request("behind the end", join(m, H("FFFF")), 65535, 4, 0, read, NO_WORDS);
-    request("empty lists", H("8001 0000 8004 0000 8000 0000"), 65535, 4, 0, CELLS(1, 4, 0, 8, 0, 0, 0, 0, 0, 0), NO_WORDS);
-    request("a port of three bytes", H("8007 0003 007B"), 65535, 4, 2, AT(0), NO_WORDS);
-    request("a port of one byte", H("8007 0001 00"), 65535, 4, 1, AT(0), NO_WORDS);
-    request("an odd key record", H("800C 0001"), 65535, 4, 2, AT(0), NO_WORDS);
-    request("a short name that is not UTF-8", H("8006 0002 C3"), 65535, 4, 2, AT(0), NO_WORDS);
-    request("a short name", H("8006 0002 41"), 65535, 4, 1, AT(0), NO_WORDS);
-    request("a second list", H("8001 0000 8001 0000 8000 0000"), 65535, 4, 4, AT(4), NO_WORDS);
-    request("an error in a request", H("8002 0002 0000"), 65535, 4, 4, AT(0), NO_WORDS);
+    request_refused("limit 15", m, 15, 4, at(1, 12));
+    request_refused("limit 0", m, 0, 4, at(1, 0));
+    request_refused("no byte", NO_BYTES, NTSKE_LIMIT, 4, at(1, 0));
+    request_refused("no byte and limit 0", NO_BYTES, 0, 0, at(1, 0));
+    request_refused("an end alone", H("8000 0000"), NTSKE_LIMIT, 4, at(4, 0));
+    request("the first bit clear", H("0001 0002 0000 8004 0002 000F 8000 0000"), NTSKE_LIMIT, 4, 0, read, NO_WORDS);
+    request("after an unknown record", join(H("000B 0000"), m), NTSKE_LIMIT, 4, 0, key_exchange(PART(8, 2), PART(14, 2), 0), NO_WORDS);
+    request_refused("after an unknown critical record", join(H("800B 0000"), m), NTSKE_LIMIT, 4, at(3, 0));
+    request("behind the end", join(m, H("FFFF")), NTSKE_LIMIT, 4, 0, read, NO_WORDS);
+    request("empty lists", H("8001 0000 8004 0000 8000 0000"), NTSKE_LIMIT, 4, 0, key_exchange(PART(4, 0), PART(8, 0), 0), NO_WORDS);
+    request_refused("a port of three bytes", H("8007 0003 007B"), NTSKE_LIMIT, 4, at(2, 0));
+    request_refused("a port of one byte", H("8007 0001 00"), NTSKE_LIMIT, 4, at(1, 0));
+    request_refused("an odd key record", H("800C 0001"), NTSKE_LIMIT, 4, at(2, 0));
+    request_refused("a short name that is not UTF-8", H("8006 0002 C3"), NTSKE_LIMIT, 4, at(2, 0));
+    request_refused("a short name", H("8006 0002 41"), NTSKE_LIMIT, 4, at(1, 0));
+    request_refused("an odd list, which no byte mends", H("8001 0002 0000 8004 0003 000F 00 8000 0000"), NTSKE_LIMIT, 4, at(1, 6));
+    request_refused("a second list", H("8001 0000 8001 0000 8000 0000"), NTSKE_LIMIT, 4, at(4, 4));
+    request_refused("an error in a request", H("8002 0002 0000"), NTSKE_LIMIT, 4, at(4, 0));
 
     struct bytes denied = H("8001 0002 0000 8004 0002 000F 000D 0003 612E62 000D 0001 63 8000 0000");
-    struct cells two = CELLS(1, 4, 2, 10, 2, 2, 0, 0, 0, 0);
-    request("two names, room for two", denied, 65535, 4, 0, two, WORDS(16, 3, 23, 1));
-    request("two names, five cells", denied, 65535, 5, 0, two, WORDS(16, 3, 23, 1));
-    request("two names, room for three", denied, 65535, 6, 0, two, WORDS(16, 3, 23, 1));
-    request("two names, three cells", denied, 65535, 3, 7, AT(24), NO_WORDS);
-    request("two names, no cell", denied, 65535, 0, 7, AT(24), NO_WORDS);
+    struct ntske_request two = key_exchange(PART(4, 2), PART(10, 2), 2);
+    request("two names, room for two", denied, NTSKE_LIMIT, 4, 0, two, WORDS(16, 3, 23, 1));
+    request("two names, five cells", denied, NTSKE_LIMIT, 5, 0, two, WORDS(16, 3, 23, 1));
+    request("two names, room for three", denied, NTSKE_LIMIT, 6, 0, two, WORDS(16, 3, 23, 1));
+    request_refused("two names, three cells", denied, NTSKE_LIMIT, 3, at(7, 24));
+    request_refused("two names, no cell", denied, NTSKE_LIMIT, 0, at(7, 24));
+    request_refused("the last place", join(times(16382, H("7FFF 0000")), H("8000 0000")), NTSKE_LIMIT, 0, at(4, 65528));
 
     struct bytes key = times(32, H("5A")), half = times(31, H("5A"));
     struct bytes lists15 = H("8001 0002 1234 8004 0002 000F"), lists16 = H("8001 0002 1234 8004 0002 0010"), lists17 = H("8001 0002 1234 8004 0002 0011");
+    struct bytes last = H("8001 0002 1234 8004 0002 FFFF");
     struct bytes rest = H("000E 0002 4142 0008 0000 8000 0000");
     struct bytes keys32 = join(join(H("800C 0040"), join(key, key)), rest), keys31 = join(join(H("800C 003E"), join(half, half)), rest);
     struct bytes keys64 = join(join(H("800C 0080"), times(4, key)), rest);
-    request("fixed keys of 32 bytes", join(lists15, keys32), 65535, 4, 0, CELLS(2, 84, 2, 16, 32, 48, 32, 15, 0x1234, 1), NO_WORDS);
-    request("fixed keys of 64 bytes", join(lists17, keys64), 65535, 4, 0, CELLS(2, 148, 2, 16, 64, 80, 64, 17, 0x1234, 1), NO_WORDS);
-    request("fixed keys of another algorithm", join(lists16, keys32), 65535, 4, 5, AT_WITH(90, 16), NO_WORDS);
-    request("fixed keys of the other length", join(lists17, keys32), 65535, 4, 6, AT(90), NO_WORDS);
-    request("fixed keys of 31 bytes", join(lists15, keys31), 65535, 4, 6, AT(88), NO_WORDS);
-    request("a support request", H("8009 0000 800A 0000 000E 0001 41 0008 0000 8000 0000"), 65535, 4, 0, CELLS(3, 12, 1, 1, 1, 1, 0, 0, 0, 0), NO_WORDS);
-    request("for protocols alone", H("8009 0000 000E 0000 8000 0000"), 65535, 4, 0, CELLS(3, 8, 0, 1, 0, 0, 0, 0, 0, 0), NO_WORDS);
-    request("for algorithms alone", H("000E 0000 800A 0000 8000 0000"), 65535, 0, 0, CELLS(3, 4, 0, 0, 1, 0, 0, 0, 0, 0), NO_WORDS);
+    request("fixed keys of 32 bytes", join(lists15, keys32), NTSKE_LIMIT, 4, 0, fixed_key(PART(84, 2), PART(16, 32), PART(48, 32), 15, 0x1234), NO_WORDS);
+    request("fixed keys of 64 bytes", join(lists17, keys64), NTSKE_LIMIT, 4, 0, fixed_key(PART(148, 2), PART(16, 64), PART(80, 64), 17, 0x1234), NO_WORDS);
+    request_refused("fixed keys of another algorithm", join(lists16, keys32), NTSKE_LIMIT, 4, with(5, 16, 90));
+    request_refused("fixed keys of the last algorithm", join(last, keys32), NTSKE_LIMIT, 4, with(5, 65535, 90));
+    request_refused("fixed keys of the other length", join(lists17, keys32), NTSKE_LIMIT, 4, at(6, 90));
+    request_refused("fixed keys of 31 bytes", join(lists15, keys31), NTSKE_LIMIT, 4, at(6, 88));
+    request("a support request", H("8009 0000 800A 0000 000E 0001 41 0008 0000 8000 0000"), NTSKE_LIMIT, 4, 0, support(PART(12, 1), 1, 1, 1), NO_WORDS);
+    request("for protocols alone", H("8009 0000 000E 0000 8000 0000"), NTSKE_LIMIT, 4, 0, support(PART(8, 0), 1, 0, 0), NO_WORDS);
+    request("for algorithms alone", H("000E 0000 800A 0000 8000 0000"), NTSKE_LIMIT, 0, 0, support(PART(4, 0), 0, 1, 0), NO_WORDS);
 
     struct bytes r = H("8001 0002 0000 8004 0002 000F 0005 0004 DEADBEEF 8000 0000");
-    reply("a reply with a cookie", r, 65535, 2, 0, CELLS(0, 15, 0, 0, 0, 0, 0, 0, 1, 0), WORDS(16, 4));
-    reply("with more room", r, 24, 7, 0, CELLS(0, 15, 0, 0, 0, 0, 0, 0, 1, 0), WORDS(16, 4));
-    reply("limit 23", r, 23, 2, 1, AT(20), NO_WORDS);
-    reply("limit 0", r, 0, 2, 1, AT(0), NO_WORDS);
-    reply("no byte", NO_BYTES, 65535, 2, 1, AT(0), NO_WORDS);
-    reply("one cell", r, 65535, 1, 7, AT(20), NO_WORDS);
-    reply("no cell", r, 65535, 0, 7, AT(20), NO_WORDS);
-    reply("a reply with all", H("8001 0002 0000 8004 0002 0011 8006 0003 612E62 8007 0002 007B 0008 0000 0005 0001 AA 0005 0000 8000 0000"), 65535, 4, 0,
-          CELLS(0, 17, 1, 16, 3, 1, 123, 1, 2, 0), WORDS(33, 1, 38, 0));
-    reply("a port of three bytes", H("8007 0003 007B"), 65535, 2, 2, AT(0), NO_WORDS);
-    reply("an unknown critical record", H("000B 0000 800B 0000"), 65535, 2, 3, AT(4), NO_WORDS);
-    reply("a supported list", H("8009 0000"), 65535, 2, 4, AT(0), NO_WORDS);
-    reply("no list", H("8000 0000"), 65535, 2, 4, AT(0), NO_WORDS);
-    reply("two protocols", H("8001 0004 00000001"), 65535, 2, 4, AT(0), NO_WORDS);
-    reply("an error", H("8002 0002 0001 8000 0000"), 65535, 2, 11, AT_WITH(0, 1), NO_WORDS);
-    reply("an error with code 65535", H("0008 0000 8002 0002 FFFF"), 65535, 2, 11, AT_WITH(4, 65535), NO_WORDS);
-    reply("a warning", H("8003 0002 0007 8000 0000"), 65535, 2, 12, AT_WITH(0, 7), NO_WORDS);
-    reply("no protocol", H("8001 0000 8000 0000"), 65535, 2, 13, AT(4), NO_WORDS);
-    reply("no algorithm", H("8001 0002 0000 8004 0000 8000 0000"), 65535, 2, 14, AT(10), NO_WORDS);
-    reply("no cookie", m, 65535, 2, 15, AT(12), NO_WORDS);
+    reply("a reply with a cookie", r, NTSKE_LIMIT, 2, 0, REPLY(.algorithm = 15, .cookies = 1), WORDS(16, 4));
+    reply("with more room", r, 24, 7, 0, REPLY(.algorithm = 15, .cookies = 1), WORDS(16, 4));
+    reply_refused("limit 23", r, 23, 2, at(1, 20));
+    reply_refused("limit 0", r, 0, 2, at(1, 0));
+    reply_refused("no byte", NO_BYTES, NTSKE_LIMIT, 2, at(1, 0));
+    reply_refused("one cell", r, NTSKE_LIMIT, 1, at(7, 20));
+    reply_refused("no cell", r, NTSKE_LIMIT, 0, at(7, 20));
+    reply("a reply with all", H("8001 0002 8001 8004 0002 0011 8006 0003 612E62 8007 0002 007B 0008 0000 0005 0001 AA 0005 0000 8000 0000"), NTSKE_LIMIT, 4, 0,
+          REPLY(.protocol = 0x8001, .algorithm = 17, .has_server = 1, .server = {16, 3}, .has_port = 1, .port = 123, .keep_alive = 1, .cookies = 2),
+          WORDS(33, 1, 38, 0));
+    reply_refused("a port of three bytes", H("8007 0003 007B"), NTSKE_LIMIT, 2, at(2, 0));
+    reply_refused("an unknown critical record", H("000B 0000 800B 0000"), NTSKE_LIMIT, 2, at(3, 4));
+    reply_refused("a supported list", H("8009 0000"), NTSKE_LIMIT, 2, at(4, 0));
+    reply_refused("no list", H("8000 0000"), NTSKE_LIMIT, 2, at(4, 0));
+    reply_refused("two protocols", H("8001 0004 00000001"), NTSKE_LIMIT, 2, at(4, 0));
+    reply_refused("an error", H("8002 0002 0001 8000 0000"), NTSKE_LIMIT, 2, with(11, 1, 0));
+    reply_refused("an error with code 0", H("8002 0002 0000 8000 0000"), NTSKE_LIMIT, 2, with(11, 0, 0));
+    reply_refused("an error with code 65535", H("0008 0000 8002 0002 FFFF"), NTSKE_LIMIT, 2, with(11, 65535, 4));
+    reply_refused("a warning", H("8003 0002 0007 8000 0000"), NTSKE_LIMIT, 2, with(12, 7, 0));
+    reply_refused("no protocol", H("8001 0000 8000 0000"), NTSKE_LIMIT, 2, at(13, 4));
+    reply_refused("no algorithm", H("8001 0002 0000 8004 0000 8000 0000"), NTSKE_LIMIT, 2, at(14, 10));
+    reply_refused("no cookie", m, NTSKE_LIMIT, 2, at(15, 12));
 
-    record("protocols", m, 0, 0, CELLS(1, 0, 0, 4, 2, 0, 0, 6, 0, 0));
-    record("algorithms", m, 6, 0, CELLS(4, 0, 0, 10, 2, 0, 0, 12, 0, 0));
-    record("the end", m, 12, 0, CELLS(0, 0, 0, 0, 0, 0, 0, 16, 0, 0));
-    record("behind the end", m, 16, 1, AT(16));
-    record("past the message", m, 17, 1, AT(17));
-    record("the last place", m, SIZE_MAX, 1, AT(SIZE_MAX));
-    record("no byte", NO_BYTES, 0, 1, AT(0));
-    record("no byte, the last place", NO_BYTES, SIZE_MAX, 1, AT(SIZE_MAX));
-    record("an error", H("8002 0002 0102"), 0, 0, CELLS(2, 0, 258, 0, 0, 0, 0, 6, 0, 0));
-    record("a warning", H("0003 0002 FFFF"), 0, 0, CELLS(3, 0, 65535, 0, 0, 0, 0, 6, 0, 0));
-    record("a cookie", H("FF 0005 0002 AABB"), 1, 0, CELLS(5, 0, 0, 5, 2, 0, 0, 7, 0, 0));
-    record("a server", H("8006 0001 41"), 0, 0, CELLS(6, 0, 0, 4, 1, 0, 0, 5, 0, 0));
-    record("a port", H("8007 0002 007B"), 0, 0, CELLS(7, 0, 123, 0, 0, 0, 0, 6, 0, 0));
-    record("keep-alive with a body", H("0008 0002 FFFF"), 0, 0, CELLS(8, 0, 0, 0, 0, 0, 0, 6, 0, 0));
-    record("supported protocols", H("8009 0000"), 0, 0, CELLS(9, 0, 0, 4, 0, 0, 0, 4, 0, 0));
-    record("supported algorithms", H("800A 0004 000F 0020"), 0, 0, CELLS(10, 0, 0, 4, 4, 0, 0, 8, 0, 0));
-    record("kind 11, bit set", H("800B 0000"), 0, 0, CELLS(11, 1, 0, 4, 0, 0, 0, 4, 0, 0));
-    record("keys", H("800C 0004 01020304"), 0, 0, CELLS(12, 0, 0, 4, 2, 6, 2, 8, 0, 0));
-    record("a denied name", H("000D 0002 C280"), 0, 0, CELLS(13, 0, 0, 4, 2, 0, 0, 6, 0, 0));
-    record("authentication", H("000E 0000"), 0, 0, CELLS(14, 0, 0, 4, 0, 0, 0, 4, 0, 0));
-    record("the last kind, bit set", H("FFFF 0001 AA"), 0, 0, CELLS(32767, 1, 0, 4, 1, 0, 0, 5, 0, 0));
-    record("the last kind, bit clear", H("7FFF 0001 AA"), 0, 0, CELLS(32767, 0, 0, 4, 1, 0, 0, 5, 0, 0));
-    record("an odd list", H("8001 0001 00"), 0, 1, AT(0));
-    record("pairs of six bytes", H("800A 0006 000F 0020 0011"), 0, 1, AT(0));
-    record("a port of three bytes", H("8007 0003 007B"), 0, 2, AT(0));
+    record("protocols", m, 0, 0, ITEM(.kind = NTSKE_KIND_NEXT_PROTOCOL, .body = {4, 2}), 6);
+    record("algorithms", m, 6, 0, ITEM(.kind = NTSKE_KIND_AEAD_ALGORITHM, .body = {10, 2}), 12);
+    record("the end", m, 12, 0, ITEM(.kind = NTSKE_KIND_END_OF_MESSAGE), 16);
+    record_refused("behind the end", m, 16, at(1, 0));
+    record_refused("past the message", m, 17, at(1, 0));
+    record_refused("the last place", m, SIZE_MAX, at(1, 0));
+    record_refused("no byte", NO_BYTES, 0, at(1, 0));
+    record_refused("no byte, the last place", NO_BYTES, SIZE_MAX, at(1, 0));
+    record("an error", H("8002 0002 0102"), 0, 0, ITEM(.kind = NTSKE_KIND_ERROR, .number = 258), 6);
+    record("a warning", H("0003 0002 FFFF"), 0, 0, ITEM(.kind = NTSKE_KIND_WARNING, .number = 65535), 6);
+    record("a cookie", H("FF 0005 0002 AABB"), 1, 0, ITEM(.kind = NTSKE_KIND_NEW_COOKIE, .body = {5, 2}), 7);
+    record("a server", H("8006 0001 41"), 0, 0, ITEM(.kind = NTSKE_KIND_SERVER, .body = {4, 1}), 5);
+    record("a port", H("8007 0002 007B"), 0, 0, ITEM(.kind = NTSKE_KIND_PORT, .number = 123), 6);
+    record("keep-alive with a body", H("0008 0002 FFFF"), 0, 0, ITEM(.kind = NTSKE_KIND_KEEP_ALIVE), 6);
+    record("supported protocols", H("8009 0000"), 0, 0, ITEM(.kind = NTSKE_KIND_SUPPORTED_NEXT_PROTOCOL_LIST, .body = {4, 0}), 4);
+    record("supported algorithms", H("800A 0004 000F 0020"), 0, 0, ITEM(.kind = NTSKE_KIND_SUPPORTED_ALGORITHM_LIST, .body = {4, 4}), 8);
+    record("kind 11, bit set", H("800B 0000"), 0, 0, ITEM(.kind = 11, .critical = 1, .body = {4, 0}), 4);
+    record("keys", H("800C 0004 01020304"), 0, 0, ITEM(.kind = NTSKE_KIND_FIXED_KEY_REQUEST, .body = {4, 2}, .second = {6, 2}), 8);
+    record("a denied name", H("000D 0002 C280"), 0, 0, ITEM(.kind = NTSKE_KIND_NTP_SERVER_DENY, .body = {4, 2}), 6);
+    record("authentication", H("000E 0000"), 0, 0, ITEM(.kind = NTSKE_KIND_AUTHENTICATION, .body = {4, 0}), 4);
+    record("the last kind, bit set", H("FFFF 0001 AA"), 0, 0, ITEM(.kind = 32767, .critical = 1, .body = {4, 1}), 5);
+    record("the last kind, bit clear", H("7FFF 0001 AA"), 0, 0, ITEM(.kind = 32767, .body = {4, 1}), 5);
+    record_refused("an odd list", H("FF 8001 0001 00"), 1, at(1, 0));
+    record_refused("pairs of six bytes", H("800A 0006 000F 0020 0011"), 0, at(1, 0));
+    record_refused("a port of three bytes", H("FF 8007 0003 007B"), 1, at(2, 0));
 
     struct bytes four = H("00010203");
-    part(four, 0, 4, CELLS(0, 4));
-    part(four, 1, 2, CELLS(1, 2));
-    part(four, 4, 0, CELLS(4, 0));
-    part(four, 5, 0, CELLS(0, 0));
-    part(four, 0, 5, CELLS(0, 0));
-    part(four, 3, 2, CELLS(0, 0));
-    part(four, SIZE_MAX, 1, CELLS(0, 0));
-    part(four, 1, SIZE_MAX, CELLS(0, 0));
-    part(four, SIZE_MAX, SIZE_MAX, CELLS(0, 0));
-    part(NO_BYTES, 0, 0, CELLS(0, 0));
-    part(NO_BYTES, 0, 1, CELLS(0, 0));
+    part(four, 0, 4, PART(0, 4));
+    part(four, 1, 2, PART(1, 2));
+    part(four, 4, 0, PART(4, 0));
+    part(four, 5, 0, PART(0, 0));
+    part(four, 0, 5, PART(0, 0));
+    part(four, 3, 2, PART(0, 0));
+    part(four, SIZE_MAX, 1, PART(0, 0));
+    part(four, 1, SIZE_MAX, PART(0, 0));
+    part(four, SIZE_MAX, SIZE_MAX, PART(0, 0));
+    part(NO_BYTES, 0, 0, PART(0, 0));
+    part(NO_BYTES, 0, 1, PART(0, 0));
 
-    entry(four, WORDS(1, 2, 2, 2), 0, CELLS(1, 2));
-    entry(four, WORDS(1, 2, 2, 2), 1, CELLS(2, 2));
-    entry(four, WORDS(1, 2, 2, 2), 2, CELLS(0, 0));
-    entry(four, WORDS(1, 2, 2, 2), SIZE_MAX, CELLS(0, 0));
-    entry(four, WORDS(1, 2, 2, 2), SIZE_MAX / 2 + 1, CELLS(0, 0));
-    entry(four, WORDS(1, 2, 3), 1, CELLS(3, 0));
-    entry(four, WORDS(3, 2), 0, CELLS(0, 0));
-    entry(four, WORDS(4, 0), 0, CELLS(4, 0));
-    entry(four, WORDS(65535, 65535), 0, CELLS(0, 0));
-    entry(four, NO_WORDS, 0, CELLS(0, 0));
-    entry(NO_BYTES, NO_WORDS, SIZE_MAX, CELLS(0, 0));
+    entry(four, WORDS(1, 2, 2, 2), 0, PART(1, 2));
+    entry(four, WORDS(1, 2, 2, 2), 1, PART(2, 2));
+    entry(four, WORDS(1, 2, 2, 2), 2, PART(0, 0));
+    entry(four, WORDS(1, 2, 2, 2), SIZE_MAX, PART(0, 0));
+    entry(four, WORDS(1, 2, 2, 2), SIZE_MAX / 2 + 1, PART(0, 0));
+    entry(four, WORDS(1, 2, 3), 1, PART(3, 0));
+    entry(four, WORDS(1, 2, 5), 1, PART(0, 0));
+    entry(four, WORDS(3, 2), 0, PART(0, 0));
+    entry(four, WORDS(4, 0), 0, PART(4, 0));
+    entry(four, WORDS(65535, 65535), 0, PART(0, 0));
+    entry(four, NO_WORDS, 0, PART(0, 0));
+    entry(NO_BYTES, NO_WORDS, SIZE_MAX, PART(0, 0));
 
-    number(0, m, 4, 2, 0, CELLS(1, 0, 0));
-    number(0, m, 10, 2, 0, CELLS(1, 15, 0));
-    number(0, m, 0, 16, 7, CELLS(1, 0, 0));
-    number(0, m, 0, 16, 6, CELLS(1, 0x8000, 0));
-    number(0, m, 0, 16, 8, CELLS(0, 0, 0));
-    number(0, m, 0, 3, 1, CELLS(0, 0, 0));
-    number(0, m, 15, 2, 0, CELLS(0, 0, 0));
-    number(0, m, 0, 16, SIZE_MAX, CELLS(0, 0, 0));
-    number(0, m, 0, 16, SIZE_MAX / 2 + 1, CELLS(0, 0, 0));
-    number(0, m, SIZE_MAX, SIZE_MAX, 0, CELLS(0, 0, 0));
-    number(0, NO_BYTES, 0, 0, 0, CELLS(0, 0, 0));
+    struct ntske_listed none = LISTED(.there = 0);
+    number(0, m, 4, 2, 0, LISTED(.there = 1, .number = 0));
+    number(0, m, 10, 2, 0, LISTED(.there = 1, .number = 15));
+    number(0, m, 0, 16, 7, LISTED(.there = 1, .number = 0));
+    number(0, m, 0, 16, 6, LISTED(.there = 1, .number = 0x8000));
+    number(0, m, 0, 16, 8, none);
+    number(0, m, 0, 3, 1, none);
+    number(0, m, 15, 2, 0, none);
+    number(0, m, 0, 16, SIZE_MAX, none);
+    number(0, m, 0, 16, SIZE_MAX / 2 + 1, none);
+    number(0, m, SIZE_MAX, SIZE_MAX, 0, none);
+    number(0, NO_BYTES, 0, 0, 0, none);
     struct bytes pairs = H("000F 0020 0011 0040 FFFF");
-    number(1, pairs, 0, 8, 0, CELLS(1, 15, 32));
-    number(1, pairs, 0, 8, 1, CELLS(1, 17, 64));
-    number(1, pairs, 0, 8, 2, CELLS(0, 0, 0));
-    number(1, pairs, 0, 10, 2, CELLS(0, 0, 0));
-    number(1, pairs, 6, 4, 0, CELLS(1, 64, 65535));
-    number(1, pairs, 7, 4, 0, CELLS(0, 0, 0));
-    number(1, pairs, 0, 8, SIZE_MAX, CELLS(0, 0, 0));
-    number(1, pairs, 0, 8, SIZE_MAX / 4 + 1, CELLS(0, 0, 0));
-    number(1, pairs, 1, SIZE_MAX, 0, CELLS(0, 0, 0));
+    number(1, pairs, 0, 8, 0, LISTED(.there = 1, .number = 15, .key_size = 32));
+    number(1, pairs, 0, 8, 1, LISTED(.there = 1, .number = 17, .key_size = 64));
+    number(1, pairs, 0, 8, 2, none);
+    number(1, pairs, 0, 10, 2, none);
+    number(1, pairs, 6, 4, 0, LISTED(.there = 1, .number = 64, .key_size = 65535));
+    number(1, pairs, 7, 4, 0, none);
+    number(1, pairs, 0, 8, SIZE_MAX, none);
+    number(1, pairs, 0, 8, SIZE_MAX / 4 + 1, none);
+    number(1, pairs, 1, SIZE_MAX, 0, none);
 
     static const char *well[] = {"", "41", "C280", "E0A080", "ED9FBF", "F48FBFBF", "F0908080", "EFBFBF", "41C28042"};
     static const char *ill[] = {"80", "C1BF", "E09FBF", "EDA080", "F4908080", "F5808080", "C2", "E0A0", "F48FBF", "C241", "FF"};
@@ -576,104 +654,179 @@ static void reading(void)
     utf8(join(times(70000, H("61")), H("C3")), 0);
 }
 
+static void listing(void)
+{
+    struct bytes m = H("8001 0002 0000 8004 0002 000F 8000 0000");
+    list("the listing of document 01", m, NTSKE_LIMIT, 1024,
+         T("place type bit size\n0 1 c 2\n6 4 c 2\n12 0 c 0\nrequest key-exchange protocols 1 algorithms 1 denied 0\n"));
+    list("limit 15", m, 15, 1024, T("place type bit size\n0 1 c 2\n6 4 c 2\nrefused 1 at 12\n"));
+    list("no byte", NO_BYTES, NTSKE_LIMIT, 0, T("place type bit size\nrefused 1 at 0\n"));
+    list("a second list", H("8001 0000 8001 0000 8000 0000"), NTSKE_LIMIT, 0, T("place type bit size\n0 1 c 0\n4 1 c 0\nrefused 4 at 4\n"));
+    struct bytes denied = H("8001 0002 0000 8004 0002 000F 000D 0003 612E62 000D 0001 63 8000 0000");
+    const char *room_for_two = "place type bit size\n0 1 c 2\n6 4 c 2\n12 13 - 3\n19 13 - 1\n24 0 c 0\nrequest key-exchange protocols 1 algorithms 1 denied 2\n";
+    const char *room_for_one = "place type bit size\n0 1 c 2\n6 4 c 2\n12 13 - 3\n19 13 - 1\n24 0 c 0\nrefused 7 at 24\n";
+    list("room for two", denied, NTSKE_LIMIT, 2, T(room_for_two));
+    list("room for one", denied, NTSKE_LIMIT, 1, T(room_for_one));
+    list("room for SIZE_MAX", denied, NTSKE_LIMIT, SIZE_MAX, T(room_for_two));
+    list("a support request", H("8009 0000 000E 0000 8000 0000"), NTSKE_LIMIT, 0, T("place type bit size\n0 9 c 0\n4 14 - 0\n8 0 c 0\nrequest support\n"));
+    struct bytes keys = join(H("800C 0040"), times(64, H("5A"))), rest = H("000E 0000 8000 0000");
+    list("fixed keys", join(H("8001 0002 0000 8004 0002 000F"), join(keys, rest)), NTSKE_LIMIT, 0,
+         T("place type bit size\n0 1 c 2\n6 4 c 2\n12 12 c 64\n80 14 - 0\n84 0 c 0\nrequest fixed-key\n"));
+    list("fixed keys of another algorithm", join(H("8001 0002 0000 8004 0002 0010"), join(keys, rest)), NTSKE_LIMIT, 0,
+         T("place type bit size\n0 1 c 2\n6 4 c 2\n12 12 c 64\n80 14 - 0\n84 0 c 0\nrefused 5 at 84 code 16\n"));
+
+    /* the longest: 16,383 records, whose lines are as long as such a line can be */
+    char *text = (char *)take(NTSKE_LISTING);
+    size_t n = (size_t)sprintf(text, "place type bit size\n");
+    for (unsigned i = 0; i < 16383; i++)
+        n += (size_t)sprintf(text + n, "%u 32767 - 0\n", 4 * i);
+    sprintf(text + n, "refused 1 at 65532\n");
+    list("the longest listing", times(16384, H("7FFF 0000")), NTSKE_LIMIT, 0, T(text));
+    check(strlen(text) <= NTSKE_LISTING, "the longest listing", "length", strlen(text));
+}
+
 static void choosing(void)
 {
     struct words ntp = WORDS(0), siv = WORDS(15, 17);
-    choose("the client's order", H("8001 0000"), H("0011 000F"), ntp, siv, 0, CELLS(0, 17));
-    choose("what the server has", H("8001 0000"), H("0011 000F"), WORDS(0, 0x8001), WORDS(15), 0, CELLS(0x8001, 15));
-    choose("no protocol", H("8001"), H("0000"), ntp, siv, 13, NO_CELLS);
-    choose("no protocol and no algorithm", NO_BYTES, NO_BYTES, ntp, siv, 13, NO_CELLS);
-    choose("no algorithm", H("0000"), H("0000"), ntp, siv, 14, NO_CELLS);
-    choose("a server without algorithms", H("0000"), H("000F"), ntp, NO_WORDS, 14, NO_CELLS);
-    choose("a server without protocols", H("0000"), H("000F"), NO_WORDS, NO_WORDS, 13, NO_CELLS);
-    choose("an odd list of protocols", H("0000 00"), H("000F"), ntp, siv, 9, NO_CELLS);
-    choose("an odd list of algorithms", H("8001"), H("000F 00"), ntp, siv, 9, NO_CELLS);
+    struct ntske_choice none = CHOICE(.protocol = 0);
+    choose("the client's order", H("8001 0000"), H("0011 000F"), ntp, siv, 0, CHOICE(.protocol = 0, .algorithm = 17));
+    choose("what the server has", H("8001 0000"), H("0011 000F"), WORDS(0, 0x8001), WORDS(15), 0, CHOICE(.protocol = 0x8001, .algorithm = 15));
+    choose("no protocol", H("8001"), H("0000"), ntp, siv, at(13, 0), none);
+    choose("no protocol and no algorithm", NO_BYTES, NO_BYTES, ntp, siv, at(13, 0), none);
+    choose("no algorithm", H("0000"), H("0000"), ntp, siv, at(14, 0), none);
+    choose("a server without algorithms", H("0000"), H("000F"), ntp, NO_WORDS, at(14, 0), none);
+    choose("a server without protocols", H("0000"), H("000F"), NO_WORDS, NO_WORDS, at(13, 0), none);
+    choose("an odd list of protocols", H("0000 00"), H("000F"), ntp, siv, at(9, 0), none);
+    choose("an odd list of algorithms", H("8001"), H("000F 00"), ntp, siv, at(9, 0), none);
+
+    choose_protocol("the client's order", H("FFFF 8001 0000"), WORDS(0, 0x8001), 0, 0x8001);
+    choose_protocol("what the server has", H("FFFF 8001 0000"), ntp, 0, 0);
+    choose_protocol("no protocol", H("8001"), ntp, at(13, 0), 0);
+    choose_protocol("an empty list", NO_BYTES, ntp, at(13, 0), 0);
+    choose_protocol("a server without protocols", H("0000"), NO_WORDS, at(13, 0), 0);
+    choose_protocol("an odd list", H("0000 00"), ntp, at(9, 0), 0);
+    choose_protocol("one byte and a server without protocols", H("00"), NO_WORDS, at(9, 0), 0);
+
+    key_length(NTSKE_AES_SIV_CMAC_256, 0, NTSKE_KEY_256);
+    key_length(NTSKE_AES_SIV_CMAC_512, 0, NTSKE_KEY_512);
+    key_length(16, with(5, 16, 0), 0);
+    key_length(0, with(5, 0, 0), 0);
+    key_length(65535, with(5, 65535, 0), 0);
 }
 
 static void planning(void)
 {
-    plan_new(0, 15, CELLS(0, 15, 0, 0, 0, 0, 0, 0));
-    plan_new(65535, 65535, CELLS(65535, 65535, 0, 0, 0, 0, 0, 0));
-    struct cells plain = CELLS(0, 15, 0, 0, 0, 0, 0, 9), full = CELLS(65535, 65535, 1, 65535, 1, 65535, 1, SIZE_MAX);
-    change("a port", SET_PORT, plain, 123, 0, CELLS(0, 15, 1, 123, 0, 0, 0, 9));
-    change("another port", SET_PORT, full, 0, 0, CELLS(65535, 65535, 1, 0, 1, 65535, 1, SIZE_MAX));
-    change("no port", CLEAR_PORT, full, 0, 0, CELLS(65535, 65535, 0, 0, 1, 65535, 1, SIZE_MAX));
+    plan_new(0, 15, PLAN(.protocol = 0, .algorithm = 15));
+    plan_new(65535, 65534, PLAN(.protocol = 65535, .algorithm = 65534));
+    struct ntske_plan plain = PLAN(.algorithm = 15, .used = 9), x = plain;
+    struct ntske_plan full = PLAN(65535, 65535, .has_port = 1, .port = 65535, .has_name = 1, .name_len = 65535, .keep_alive = 1, .used = SIZE_MAX), y = full;
+    x.has_port = 1, x.port = 123;
+    change("a port", SET_PORT, plain, 123, 0, x);
+    y.port = 0;
+    change("another port", SET_PORT, full, 0, 0, y);
+    y = full, y.has_port = 0, y.port = 0;
+    change("no port", CLEAR_PORT, full, 0, 0, y);
     change("no port where none was", CLEAR_PORT, plain, 0, 0, plain);
-    change("a name", SET_NAME, plain, 65535, 0, CELLS(0, 15, 0, 0, 1, 65535, 0, 9));
-    change("no name", CLEAR_NAME, full, 0, 0, CELLS(65535, 65535, 1, 65535, 0, 0, 1, SIZE_MAX));
-    change("keep-alive", SET_KEEP_ALIVE, plain, 0, 0, CELLS(0, 15, 0, 0, 0, 0, 1, 9));
-    change("no keep-alive", CLEAR_KEEP_ALIVE, full, 0, 0, CELLS(65535, 65535, 1, 65535, 1, 65535, 0, SIZE_MAX));
-    change("a number where there is no port", SET_KEEP_ALIVE, CELLS(0, 15, 0, 5, 0, 6, 0, 9), 0, 0, CELLS(0, 15, 0, 0, 0, 0, 1, 9));
+    x = plain, x.has_name = 1, x.name_len = 65535;
+    change("a name", SET_NAME, plain, 65535, 0, x);
+    y = full, y.has_name = 0, y.name_len = 0;
+    change("no name", CLEAR_NAME, full, 0, 0, y);
+    x = plain, x.keep_alive = 1;
+    change("keep-alive", SET_KEEP_ALIVE, plain, 0, 0, x);
+    y = full, y.keep_alive = 0;
+    change("no keep-alive", CLEAR_KEEP_ALIVE, full, 0, 0, y);
+    y = plain, y.port = 5, y.name_len = 6;
+    change("numbers of what is not planned", SET_KEEP_ALIVE, y, 0, 0, x);
 
-    /* each cell out of its range, in every call on a plan */
+    /* each number out of its range, in every call on a plan */
     static const size_t most[7] = {65535, 65535, 1, 65535, 1, 65535, 1};
     struct bytes tray = times(32, H("00"));
     for (int i = 0; i < 7; i++)
         for (int j = 0; j < 2; j++) {
-            size_t cells[NTSKE_PLAN] = {0, 15, 0, 0, 0, 0, 0, 0};
+            size_t cells[8] = {0, 15, 0, 0, 0, 0, 0, 0};
+            struct ntske_plan broken;
             cells[i] = j ? SIZE_MAX : most[i] + 1;
-            struct cells broken = {NTSKE_PLAN, cells};
+            memcpy(&broken, cells, sizeof broken);
             for (int c = 0; c < CHANGES; c++)
-                change("a cell out of range", (enum change)c, broken, 1, 9, broken);
-            append("a cell out of range", broken, H("AA"), tray, 9, NO_CELLS, 0, NO_BYTES);
-            struct given x = {.cells = broken, .tray = tray};
-            writes("a cell out of range", REPLY, x, 9, NO_BYTES);
-            measures("a cell out of range", REPLY, x, 9, 0);
+                change("out of range", (enum change)c, broken, 1, at(9, 0), broken);
+            append("out of range", broken, H("AA"), tray, at(9, 0), NO_BYTES);
+            struct given given = {.plan = broken, .tray = tray};
+            both("out of range", WRITE_REPLY, given, at(9, 0), NO_BYTES);
         }
 
     struct bytes one = join(H("01 0004 DEADBEEF"), times(13, H("00"))), eight = join(times(8, H("01 0000")), times(8, H("77")));
-    append("the first cookie", CELLS(0, 15, 0, 0, 0, 0, 0, 0), H("DEADBEEF"), tray, 0, CELLS(0, 15, 0, 0, 0, 0, 0, 7), 0, H("01 0004 DEADBEEF"));
-    append("the second", CELLS(0, 15, 1, 123, 1, 3, 1, 7), H("AA"), one, 0, CELLS(0, 15, 1, 123, 1, 3, 1, 11), 7, H("01 0001 AA"));
-    append("an empty one, just room", CELLS(0, 15, 0, 0, 0, 0, 0, 17), NO_BYTES, join(H("01 000E"), times(17, H("00"))), 0, CELLS(0, 15, 0, 0, 0, 0, 0, 20), 17, H("01 0000"));
-    append("ten cells", CELLS(0, 15, 0, 0, 0, 0, 0, 0, 5, 6), H("AA"), tray, 0, CELLS(0, 15, 0, 0, 0, 0, 0, 4, 5, 6), 0, H("01 0001 AA"));
-    append("seven cells", CELLS(0, 15, 0, 0, 0, 0, 0), H("AA"), tray, 9, NO_CELLS, 0, NO_BYTES);
-    append("no cells", NO_CELLS, H("AA"), tray, 9, NO_CELLS, 0, NO_BYTES);
-    append("another tag", CELLS(0, 15, 0, 0, 0, 0, 0, 3), H("AA"), H("02 0000 00000000"), 9, NO_CELLS, 0, NO_BYTES);
-    append("a field that is cut", CELLS(0, 15, 0, 0, 0, 0, 0, 6), H("AA"), one, 9, NO_CELLS, 0, NO_BYTES);
-    append("a header that is cut", CELLS(0, 15, 0, 0, 0, 0, 0, 2), H("AA"), one, 9, NO_CELLS, 0, NO_BYTES);
-    append("used past the tray", CELLS(0, 15, 0, 0, 0, 0, 0, 21), H("AA"), one, 9, NO_CELLS, 0, NO_BYTES);
-    append("used SIZE_MAX", CELLS(0, 15, 0, 0, 0, 0, 0, SIZE_MAX), H("AA"), one, 9, NO_CELLS, 0, NO_BYTES);
-    append("nine in the tray", CELLS(0, 15, 0, 0, 0, 0, 0, 27), H("AA"), times(12, H("01 0000")), 9, NO_CELLS, 0, NO_BYTES);
-    append("the ninth", CELLS(0, 15, 0, 0, 0, 0, 0, 24), H("AA"), eight, 7, NO_CELLS, 0, NO_BYTES);
-    append("the eighth", CELLS(0, 15, 0, 0, 0, 0, 0, 21), H("AA"), eight, 0, CELLS(0, 15, 0, 0, 0, 0, 0, 25), 21, H("01 0001 AA"));
-    append("no room", CELLS(0, 15, 0, 0, 0, 0, 0, 7), times(11, H("AA")), one, 10, NO_CELLS, 0, NO_BYTES);
-    append("a tray of no bytes", CELLS(0, 15, 0, 0, 0, 0, 0, 0), NO_BYTES, NO_BYTES, 10, NO_CELLS, 0, NO_BYTES);
+    struct ntske_plan all = PLAN(.algorithm = 15, .has_port = 1, .port = 123, .has_name = 1, .name_len = 3, .keep_alive = 1, .used = 7);
+    append("the first cookie", PLAN(.algorithm = 15), H("DEADBEEF"), tray, 0, H("01 0004 DEADBEEF"));
+    append("the second", all, H("AA"), one, 0, H("01 0001 AA"));
+    append("an empty one, just room", PLAN(.algorithm = 15, .used = 17), NO_BYTES, join(H("01 000E"), times(17, H("00"))), 0, H("01 0000"));
+    append("another tag", PLAN(.algorithm = 15, .used = 3), H("AA"), H("02 0000 00000000"), at(9, 0), NO_BYTES);
+    append("a field that is cut", PLAN(.algorithm = 15, .used = 6), H("AA"), one, at(9, 0), NO_BYTES);
+    append("a header that is cut", PLAN(.algorithm = 15, .used = 2), H("AA"), one, at(9, 0), NO_BYTES);
+    append("used past the tray", PLAN(.algorithm = 15, .used = 21), H("AA"), one, at(9, 0), NO_BYTES);
+    append("used SIZE_MAX", PLAN(.algorithm = 15, .used = SIZE_MAX), H("AA"), one, at(9, 0), NO_BYTES);
+    append("nine in the tray", PLAN(.algorithm = 15, .used = 27), H("AA"), times(12, H("01 0000")), at(9, 0), NO_BYTES);
+    append("the ninth", PLAN(.algorithm = 15, .used = 24), H("AA"), eight, at(7, 0), NO_BYTES);
+    append("the eighth", PLAN(.algorithm = 15, .used = 21), H("AA"), eight, 0, H("01 0001 AA"));
+    append("no room", PLAN(.algorithm = 15, .used = 7), times(11, H("AA")), one, at(10, 0), NO_BYTES);
+    append("a tray of no bytes", PLAN(.algorithm = 15), NO_BYTES, NO_BYTES, at(10, 0), NO_BYTES);
     struct bytes long_one = times(65535, H("AB")), too_long = times(65536, H("AB"));
-    append("a cookie of 65,536 bytes", CELLS(0, 15, 0, 0, 0, 0, 0, 24), too_long, eight, 8, NO_CELLS, 0, NO_BYTES);
-    append("a broken tray first", CELLS(0, 15, 0, 0, 0, 0, 0, 2), too_long, eight, 9, NO_CELLS, 0, NO_BYTES);
-    append("a cookie of 65,535 bytes", CELLS(0, 15, 0, 0, 0, 0, 0, 0), long_one, times(65538, H("00")), 0, CELLS(0, 15, 0, 0, 0, 0, 0, 65538), 0, join(H("01 FFFF"), long_one));
+    append("a cookie of 65,536 bytes", PLAN(.algorithm = 15, .used = 24), too_long, eight, at(8, 0), NO_BYTES);
+    append("a broken tray first", PLAN(.algorithm = 15, .used = 2), too_long, eight, at(9, 0), NO_BYTES);
+    append("a cookie of 65,535 bytes", PLAN(.algorithm = 15), long_one, times(65538, H("00")), 0, join(H("01 FFFF"), long_one));
+}
+
+static void denying(void)
+{
+    struct bytes tray = times(20, H("77")), one = join(H("02 0003 612E62"), times(8, H("77"))), nine = join(times(9, H("02 0000")), times(8, H("77")));
+    deny("the first name", 0, H("612E62"), tray, 0, H("02 0003 612E62"));
+    deny("the second", 6, H("C280"), one, 0, H("02 0002 C280"));
+    deny("an empty name, just room", 6, NO_BYTES, H("02 0003 612E62 777777"), 0, H("02 0000"));
+    deny("the tenth", 27, H("63"), nine, 0, H("02 0001 63"));
+    deny("a cookie's tag", 3, H("63"), H("01 0000 77777777"), at(9, 0), NO_BYTES);
+    deny("a field that is cut", 5, H("63"), one, at(9, 0), NO_BYTES);
+    deny("a header that is cut", 2, H("63"), one, at(9, 0), NO_BYTES);
+    deny("used past the tray", 15, H("63"), one, at(9, 0), NO_BYTES);
+    deny("used SIZE_MAX", SIZE_MAX, H("63"), one, at(9, 0), NO_BYTES);
+    deny("used 1 of no tray", 1, H("63"), NO_BYTES, at(9, 0), NO_BYTES);
+    deny("a name that is not UTF-8", 6, H("C3"), one, at(9, 0), NO_BYTES);
+    deny("a name that is not UTF-8, and no room", 6, times(40, H("FF")), one, at(9, 0), NO_BYTES);
+    deny("no room", 6, H("616161616161"), one, at(10, 0), NO_BYTES);
+    deny("a tray of no bytes", 0, NO_BYTES, NO_BYTES, at(10, 0), NO_BYTES);
+    struct bytes long_one = times(65535, H("61")), too_long = times(65536, H("61"));
+    deny("a name of 65,536 bytes", 6, too_long, one, at(8, 0), NO_BYTES);
+    deny("a broken tray first", 5, too_long, one, at(9, 0), NO_BYTES);
+    deny("a name of 65,536 bytes that is not UTF-8", 6, times(65536, H("FF")), one, at(9, 0), NO_BYTES);
+    deny("a name of 65,535 bytes", 0, long_one, times(65538, H("00")), 0, join(H("02 FFFF"), long_one));
 }
 
 static void writing(void)
 {
     static const uint16_t zeros[32768];
     struct bytes tray = H("01 0004 DEADBEEF 01 0000 7777"), name = H("612E62");
-    struct given all = {.cells = CELLS(0, 17, 1, 123, 1, 3, 1, 10), .tray = tray, .name = name};
-    both("a reply with all", REPLY, all, 0, H("8001 0002 0000 8004 0002 0011 8006 0003 612E62 8007 0002 007B 0008 0000 0005 0004 DEADBEEF 0005 0000 8000 0000"));
-    both("a reply with ten cells of a plan", REPLY, (struct given){.cells = CELLS(1, 2, 0, 0, 0, 0, 0, 7, 5, 6), .tray = tray}, 0,
+    struct ntske_plan all = PLAN(.algorithm = 17, .has_port = 1, .port = 123, .has_name = 1, .name_len = 3, .keep_alive = 1, .used = 10);
+    both("a reply with all", WRITE_REPLY, (struct given){.plan = all, .tray = tray, .name = name}, 0,
+         H("8001 0002 0000 8004 0002 0011 8006 0003 612E62 8007 0002 007B 0008 0000 0005 0004 DEADBEEF 0005 0000 8000 0000"));
+    both("a reply with one cookie", WRITE_REPLY, (struct given){.plan = PLAN(.protocol = 1, .algorithm = 2, .used = 7), .tray = tray}, 0,
          H("8001 0002 0001 8004 0002 0002 0005 0004 DEADBEEF 8000 0000"));
-    writes("no cookie", REPLY, (struct given){.cells = CELLS(0, 15, 0, 0, 0, 0, 0, 0), .tray = tray}, 15, NO_BYTES);
-    writes("no cookie and no tray", REPLY, (struct given){.cells = CELLS(0, 15, 0, 0, 0, 0, 0, 0)}, 15, NO_BYTES);
-    measures("no cookie", REPLY, (struct given){.cells = CELLS(0, 15, 0, 0, 0, 0, 0, 0), .tray = tray}, 0, 16);
-    writes("a name that is not planned", REPLY, (struct given){.cells = CELLS(0, 15, 0, 0, 0, 0, 0, 7), .tray = tray, .name = name}, 9, NO_BYTES);
-    writes("a name of another length", REPLY, (struct given){.cells = CELLS(0, 15, 0, 0, 1, 4, 0, 7), .tray = tray, .name = name}, 9, NO_BYTES);
-    writes("a name that is not UTF-8", REPLY, (struct given){.cells = CELLS(0, 15, 0, 0, 1, 2, 0, 7), .tray = tray, .name = H("C3C3")}, 9, NO_BYTES);
-    writes("no name, none planned", REPLY, (struct given){.cells = CELLS(0, 15, 0, 0, 1, 0, 0, 7), .tray = tray}, 0,
+    writes("no cookie", WRITE_REPLY, (struct given){.plan = PLAN(.algorithm = 15), .tray = tray}, at(15, 0), NO_BYTES);
+    writes("no cookie and no tray", WRITE_REPLY, (struct given){.plan = PLAN(.algorithm = 15)}, at(15, 0), NO_BYTES);
+    measures("no cookie", WRITE_REPLY, (struct given){.plan = PLAN(.algorithm = 15), .tray = tray}, 0, 16);
+    struct ntske_plan named = PLAN(.algorithm = 15, .has_name = 1, .name_len = 4, .used = 7), two = named, empty = named;
+    two.name_len = 2, empty.name_len = 0;
+    writes("a name that is not planned", WRITE_REPLY, (struct given){.plan = PLAN(.algorithm = 15, .used = 7), .tray = tray, .name = name}, at(9, 0), NO_BYTES);
+    writes("a name of another length", WRITE_REPLY, (struct given){.plan = named, .tray = tray, .name = name}, at(9, 0), NO_BYTES);
+    writes("a name that is not UTF-8", WRITE_REPLY, (struct given){.plan = two, .tray = tray, .name = H("C3C3")}, at(9, 0), NO_BYTES);
+    writes("an empty name is planned", WRITE_REPLY, (struct given){.plan = empty, .tray = tray}, 0,
            H("8001 0002 0000 8004 0002 000F 8006 0000 0005 0004 DEADBEEF 8000 0000"));
-    struct cells seven = CELLS(0, 15, 0, 0, 0, 0, 0), cut = CELLS(0, 15, 0, 0, 0, 0, 0, 8), past = CELLS(0, 15, 0, 0, 0, 0, 0, 13), last = CELLS(0, 15, 0, 0, 0, 0, 0, SIZE_MAX);
     struct given broken[] = {
-        {.cells = seven, .tray = tray},
-        {.tray = tray},
-        {.cells = cut, .tray = tray},
-        {.cells = past, .tray = tray},
-        {.cells = last, .tray = tray},
-        {.cells = CELLS(0, 15, 0, 0, 0, 0, 0, 3), .tray = H("02 0000")},
-        {.cells = CELLS(0, 15, 0, 0, 0, 0, 0, 27), .tray = times(9, H("01 0000"))},
+        {.plan = PLAN(.algorithm = 15, .used = 8), .tray = tray},
+        {.plan = PLAN(.algorithm = 15, .used = 13), .tray = tray},
+        {.plan = PLAN(.algorithm = 15, .used = SIZE_MAX), .tray = tray},
+        {.plan = PLAN(.algorithm = 15, .used = 3), .tray = H("02 0000")},
+        {.plan = PLAN(.algorithm = 15, .used = 27), .tray = times(9, H("01 0000"))},
     };
-    for (size_t i = 0; i < sizeof broken / sizeof *broken; i++) {
-        writes("no plan or a broken tray", REPLY, broken[i], 9, NO_BYTES);
-        measures("no plan or a broken tray", REPLY, broken[i], 9, 0);
-    }
+    for (size_t i = 0; i < sizeof broken / sizeof *broken; i++)
+        both("a broken tray", WRITE_REPLY, broken[i], at(9, 0), NO_BYTES);
 
     writes("no protocol", NO_PROTOCOL, (struct given){.number = 0}, 0, H("8001 0000 8000 0000"));
     writes("no algorithm", NO_ALGORITHM, (struct given){.number = 0x8001}, 0, H("8001 0002 8001 8004 0000 8000 0000"));
@@ -682,16 +835,17 @@ static void writing(void)
 
     struct words pairs = WORDS(15, 32, 17, 64), odd = WORDS(15, 32, 17), protocols = WORDS(0, 0x8001), many = {32768, zeros};
     both("nothing asked", SUPPORT, (struct given){.number = 0, .first = pairs, .second = protocols}, 0, H("8000 0000"));
-    both("algorithms", SUPPORT, (struct given){.number = 1, .first = pairs, .second = many}, 0, H("800A 0008 000F 0020 0011 0040 8000 0000"));
-    both("protocols", SUPPORT, (struct given){.number = 2, .first = many, .second = protocols}, 0, H("8009 0004 0000 8001 8000 0000"));
-    both("keep-alive", SUPPORT, (struct given){.number = 4}, 0, H("0008 0000 8000 0000"));
+    both("algorithms", SUPPORT, (struct given){.number = NTSKE_ALGORITHMS, .first = pairs, .second = many}, 0, H("800A 0008 000F 0020 0011 0040 8000 0000"));
+    both("protocols", SUPPORT, (struct given){.number = NTSKE_PROTOCOLS, .first = many, .second = protocols}, 0, H("8009 0004 0000 8001 8000 0000"));
+    both("keep-alive", SUPPORT, (struct given){.number = NTSKE_KEEP_ALIVE}, 0, H("0008 0000 8000 0000"));
     both("all", SUPPORT, (struct given){.number = 7, .first = pairs, .second = protocols}, 0, H("800A 0008 000F 0020 0011 0040 8009 0004 0000 8001 0008 0000 8000 0000"));
     both("all, of empty lists", SUPPORT, (struct given){.number = 7}, 0, H("800A 0000 8009 0000 0008 0000 8000 0000"));
-    both("asked 8", SUPPORT, (struct given){.number = 8, .first = pairs, .second = protocols}, 9, NO_BYTES);
-    both("asked 255", SUPPORT, (struct given){.number = 255, .first = many, .second = many}, 9, NO_BYTES);
-    both("an odd number of cells", SUPPORT, (struct given){.number = 3, .first = odd, .second = many}, 9, NO_BYTES);
-    both("too many pairs", SUPPORT, (struct given){.number = 1, .first = many, .second = protocols}, 8, NO_BYTES);
-    both("too many protocols", SUPPORT, (struct given){.number = 2, .first = pairs, .second = many}, 8, NO_BYTES);
+    both("asked 8", SUPPORT, (struct given){.number = 8, .first = pairs, .second = protocols}, at(9, 0), NO_BYTES);
+    both("asked 255", SUPPORT, (struct given){.number = 255, .first = many, .second = many}, at(9, 0), NO_BYTES);
+    both("an odd number of cells", SUPPORT, (struct given){.number = 3, .first = odd, .second = many}, at(9, 0), NO_BYTES);
+    both("an odd number of cells that is not asked for", SUPPORT, (struct given){.number = 4, .first = odd}, at(9, 0), NO_BYTES);
+    both("too many pairs", SUPPORT, (struct given){.number = 1, .first = many, .second = protocols}, at(8, 0), NO_BYTES);
+    both("too many protocols", SUPPORT, (struct given){.number = 2, .first = pairs, .second = many}, at(8, 0), NO_BYTES);
 
     struct words siv = WORDS(15), most = {32767, many.p};
     struct bytes names = H("02 0003 612E62 02 0000 00");
@@ -700,66 +854,143 @@ static void writing(void)
     both("with names", REQUEST, (struct given){.first = WORDS(0), .second = siv, .tray = names, .used = 9}, 0, listed);
     both("with one of them", REQUEST, (struct given){.tray = names, .used = 6}, 0, H("8001 0000 8004 0000 000D 0003 612E62 8000 0000"));
     measures("the longest lists", REQUEST, (struct given){.first = most, .second = most}, 0, 2 * (4 + 65534) + 4);
-    both("too long a list", REQUEST, (struct given){.first = many, .second = siv}, 8, NO_BYTES);
-    both("too long a second list", REQUEST, (struct given){.first = siv, .second = many, .tray = names, .used = 9}, 8, NO_BYTES);
-    both("a name that is not UTF-8", REQUEST, (struct given){.first = many, .tray = H("02 0001 FF"), .used = 4}, 9, NO_BYTES);
-    both("a cookie's tag", REQUEST, (struct given){.first = many, .tray = H("01 0000"), .used = 3}, 9, NO_BYTES);
-    both("a name that is cut", REQUEST, (struct given){.tray = names, .used = 5}, 9, NO_BYTES);
-    both("used past the tray", REQUEST, (struct given){.tray = names, .used = 11}, 9, NO_BYTES);
-    both("used SIZE_MAX", REQUEST, (struct given){.tray = names, .used = SIZE_MAX}, 9, NO_BYTES);
-    both("used 1 of no tray", REQUEST, (struct given){.first = siv, .used = 1}, 9, NO_BYTES);
+    both("too long a list", REQUEST, (struct given){.first = many, .second = siv}, at(8, 0), NO_BYTES);
+    both("too long a second list", REQUEST, (struct given){.first = siv, .second = many, .tray = names, .used = 9}, at(8, 0), NO_BYTES);
+    both("a name that is not UTF-8", REQUEST, (struct given){.first = many, .tray = H("02 0001 FF"), .used = 4}, at(9, 0), NO_BYTES);
+    both("a cookie's tag", REQUEST, (struct given){.first = many, .tray = H("01 0000"), .used = 3}, at(9, 0), NO_BYTES);
+    both("a name that is cut", REQUEST, (struct given){.tray = names, .used = 5}, at(9, 0), NO_BYTES);
+    both("used past the tray", REQUEST, (struct given){.tray = names, .used = 11}, at(9, 0), NO_BYTES);
+    both("used SIZE_MAX", REQUEST, (struct given){.tray = names, .used = SIZE_MAX}, at(9, 0), NO_BYTES);
+    both("used 1 of no tray", REQUEST, (struct given){.first = siv, .used = 1}, at(9, 0), NO_BYTES);
+
+    struct bytes nothing = H("8001 0000 8004 0000 8000 0000");
+    uint8_t *out = lend(NULL, 12);
+    size_t *count = lend(NULL, sizeof *count), twelve = 12;
+    uint64_t got = ntske_write_request(NTSKE_NO_NUMBERS, 0, NTSKE_NO_NUMBERS, 0, NTSKE_NO_BYTES, 0, 0, out, 12, count);
+    becomes(out, 0, nothing.p, nothing.n);
+    becomes(count, 0, &twelve, sizeof twelve);
+    after("no numbers and no bytes", got, NTSKE_OK);
 }
 
 static void records(void)
 {
     struct bytes four = H("01020304"), text = H("41C280FF");
-    item("the end", CELLS(0, 0, 0, 0, 0, 0, 0), NO_BYTES, 0, H("8000 0000"));
-    item("the end, with what it has not", CELLS(0, 1, 65535, SIZE_MAX, SIZE_MAX, SIZE_MAX, SIZE_MAX), NO_BYTES, 0, H("8000 0000"));
-    item("protocols", CELLS(1, 0, 0, 0, 4, 0, 0), four, 0, H("8001 0004 01020304"));
-    item("an error", CELLS(2, 0, 258, 0, 0, 0, 0), NO_BYTES, 0, H("8002 0002 0102"));
-    item("a warning", CELLS(3, 0, 65535, 9, 9, 9, 9), four, 0, H("8003 0002 FFFF"));
-    item("algorithms", CELLS(4, 0, 0, 1, 2, 0, 0), four, 0, H("8004 0002 0203"));
-    item("a cookie", CELLS(5, 0, 0, 1, 3, SIZE_MAX, SIZE_MAX), four, 0, H("0005 0003 020304"));
-    item("an empty cookie", CELLS(5, 0, 0, 4, 0, 0, 0), four, 0, H("0005 0000"));
-    item("a server", CELLS(6, 0, 0, 0, 3, 0, 0), text, 0, H("8006 0003 41C280"));
-    item("a port", CELLS(7, 0, 123, 0, 0, 0, 0), NO_BYTES, 0, H("8007 0002 007B"));
-    item("keep-alive", CELLS(8, 0, 0, 0, 0, 0, 0), NO_BYTES, 0, H("0008 0000"));
-    item("supported protocols", CELLS(9, 0, 0, 0, 0, 0, 0), NO_BYTES, 0, H("8009 0000"));
-    item("supported algorithms", CELLS(10, 0, 0, 0, 4, 0, 0), four, 0, H("800A 0004 01020304"));
-    item("kind 11", CELLS(11, 1, 0, 0, 1, 0, 0), four, 0, H("800B 0001 01"));
-    item("keys", CELLS(12, 0, 0, 0, 2, 2, 2), four, 0, H("800C 0004 01020304"));
-    item("keys from other places", CELLS(12, 0, 0, 2, 2, 1, 2), four, 0, H("800C 0004 03040203"));
-    item("a denied name", CELLS(13, 0, 0, 0, 1, 0, 0), text, 0, H("000D 0001 41"));
-    item("authentication", CELLS(14, 0, 0, 1, 2, 0, 0), text, 0, H("000E 0002 C280"));
-    item("the last kind", CELLS(32767, 1, 0, 0, 4, 0, 0), four, 0, H("FFFF 0004 01020304"));
-    item("the last kind, bit clear", CELLS(32767, 0, 0, 0, 0, 0, 0), NO_BYTES, 0, H("7FFF 0000"));
-    item("nine cells", CELLS(8, 0, 0, 0, 0, 0, 0, SIZE_MAX, SIZE_MAX), NO_BYTES, 0, H("0008 0000"));
-    item("six cells", CELLS(8, 0, 0, 0, 0, 0), NO_BYTES, 9, NO_BYTES);
-    item("no cells", NO_CELLS, NO_BYTES, 9, NO_BYTES);
-    item("kind 32,768", CELLS(32768, 0, 0, 0, 0, 0, 0), four, 9, NO_BYTES);
-    item("kind 65,536", CELLS(65536, 0, 0, 0, 0, 0, 0), four, 9, NO_BYTES);
-    item("kind SIZE_MAX", CELLS(SIZE_MAX, 0, 0, 0, 0, 0, 0), four, 9, NO_BYTES);
-    item("kind 65,535", CELLS(65535, 1, 0, 0, 0, 0, 0), four, 9, NO_BYTES);
-    item("a bit of 2", CELLS(11, 2, 0, 0, 0, 0, 0), four, 9, NO_BYTES);
-    item("a bit of 2 where it does not count", CELLS(0, 2, 0, 0, 0, 0, 0), four, 9, NO_BYTES);
-    item("a number of 65,536", CELLS(7, 0, 65536, 0, 0, 0, 0), four, 9, NO_BYTES);
-    item("a number of SIZE_MAX", CELLS(0, 0, SIZE_MAX, 0, 0, 0, 0), four, 9, NO_BYTES);
-    item("a part past the source", CELLS(5, 0, 0, 1, 4, 0, 0), four, 9, NO_BYTES);
-    item("a part at SIZE_MAX", CELLS(5, 0, 0, SIZE_MAX, 1, 0, 0), four, 9, NO_BYTES);
-    item("a part of SIZE_MAX", CELLS(11, 0, 0, 1, SIZE_MAX, 0, 0), four, 9, NO_BYTES);
-    item("a second key past the source", CELLS(12, 0, 0, 0, 2, 3, 2), four, 9, NO_BYTES);
-    item("keys of unequal length", CELLS(12, 0, 0, 0, 2, 2, 1), four, 9, NO_BYTES);
-    item("an odd list", CELLS(1, 0, 0, 0, 3, 0, 0), four, 9, NO_BYTES);
-    item("an odd list of algorithms", CELLS(4, 0, 0, 0, 1, 0, 0), four, 9, NO_BYTES);
-    item("pairs of two bytes", CELLS(10, 0, 0, 0, 2, 0, 0), four, 9, NO_BYTES);
-    item("a server that is not UTF-8", CELLS(6, 0, 0, 0, 4, 0, 0), text, 9, NO_BYTES);
-    item("a denied name that is not UTF-8", CELLS(13, 0, 0, 0, 2, 0, 0), text, 9, NO_BYTES);
-    item("authentication that is not UTF-8", CELLS(14, 0, 0, 3, 1, 0, 0), text, 9, NO_BYTES);
+    const size_t huge = SIZE_MAX;
+    item("the end", ITEM(.kind = 0), NO_BYTES, 0, H("8000 0000"));
+    item("the end, with what it has not", ITEM(.kind = 0, .critical = 1, .number = 65535, .body = {huge, huge}, .second = {huge, huge}), NO_BYTES, 0, H("8000 0000"));
+    item("protocols", ITEM(.kind = 1, .body = {0, 4}), four, 0, H("8001 0004 01020304"));
+    item("an error", ITEM(.kind = 2, .number = 258), NO_BYTES, 0, H("8002 0002 0102"));
+    item("a warning", ITEM(.kind = 3, .number = 65535, .body = {9, 9}, .second = {9, 9}), four, 0, H("8003 0002 FFFF"));
+    item("algorithms", ITEM(.kind = 4, .body = {1, 2}), four, 0, H("8004 0002 0203"));
+    item("a cookie", ITEM(.kind = 5, .body = {1, 3}, .second = {huge, huge}), four, 0, H("0005 0003 020304"));
+    item("an empty cookie", ITEM(.kind = 5, .body = {4, 0}), four, 0, H("0005 0000"));
+    item("a server", ITEM(.kind = 6, .body = {0, 3}), text, 0, H("8006 0003 41C280"));
+    item("a port", ITEM(.kind = 7, .number = 123), NO_BYTES, 0, H("8007 0002 007B"));
+    item("keep-alive", ITEM(.kind = 8), NO_BYTES, 0, H("0008 0000"));
+    item("supported protocols", ITEM(.kind = 9), NO_BYTES, 0, H("8009 0000"));
+    item("supported algorithms", ITEM(.kind = 10, .body = {0, 4}), four, 0, H("800A 0004 01020304"));
+    item("kind 11", ITEM(.kind = 11, .critical = 1, .body = {0, 1}), four, 0, H("800B 0001 01"));
+    item("keys", ITEM(.kind = 12, .body = {0, 2}, .second = {2, 2}), four, 0, H("800C 0004 01020304"));
+    item("keys from other places", ITEM(.kind = 12, .body = {2, 2}, .second = {1, 2}), four, 0, H("800C 0004 03040203"));
+    item("a denied name", ITEM(.kind = 13, .body = {0, 1}), text, 0, H("000D 0001 41"));
+    item("authentication", ITEM(.kind = 14, .body = {1, 2}), text, 0, H("000E 0002 C280"));
+    item("the last kind", ITEM(.kind = 32767, .critical = 1, .body = {0, 4}), four, 0, H("FFFF 0004 01020304"));
+    item("the last kind, bit clear", ITEM(.kind = 32767), NO_BYTES, 0, H("7FFF 0000"));
+    item("kind 32,768", ITEM(.kind = 32768), four, at(9, 0), NO_BYTES);
+    item("kind 65,536", ITEM(.kind = 65536), four, at(9, 0), NO_BYTES);
+    item("kind SIZE_MAX", ITEM(.kind = huge), four, at(9, 0), NO_BYTES);
+    item("kind 65,535", ITEM(.kind = 65535, .critical = 1), four, at(9, 0), NO_BYTES);
+    item("a bit of 2", ITEM(.kind = 11, .critical = 2), four, at(9, 0), NO_BYTES);
+    item("a bit of 2 where it does not count", ITEM(.kind = 0, .critical = 2), four, at(9, 0), NO_BYTES);
+    item("a number of 65,536", ITEM(.kind = 7, .number = 65536), four, at(9, 0), NO_BYTES);
+    item("a number of SIZE_MAX", ITEM(.kind = 0, .number = huge), four, at(9, 0), NO_BYTES);
+    item("a part past the source", ITEM(.kind = 5, .body = {1, 4}), four, at(9, 0), NO_BYTES);
+    item("an empty part past the source", ITEM(.kind = 5, .body = {5, 0}), four, at(9, 0), NO_BYTES);
+    item("a part at SIZE_MAX", ITEM(.kind = 5, .body = {huge, 1}), four, at(9, 0), NO_BYTES);
+    item("a part of SIZE_MAX", ITEM(.kind = 11, .body = {1, huge}), four, at(9, 0), NO_BYTES);
+    item("a second key past the source", ITEM(.kind = 12, .body = {0, 2}, .second = {3, 2}), four, at(9, 0), NO_BYTES);
+    item("keys of unequal length", ITEM(.kind = 12, .body = {0, 2}, .second = {2, 1}), four, at(9, 0), NO_BYTES);
+    item("an odd list", ITEM(.kind = 1, .body = {0, 3}), four, at(9, 0), NO_BYTES);
+    item("an odd list of algorithms", ITEM(.kind = 4, .body = {0, 1}), four, at(9, 0), NO_BYTES);
+    item("an odd list of supported protocols", ITEM(.kind = 9, .body = {0, 1}), four, at(9, 0), NO_BYTES);
+    item("pairs of two bytes", ITEM(.kind = 10, .body = {0, 2}), four, at(9, 0), NO_BYTES);
+    item("a server that is not UTF-8", ITEM(.kind = 6, .body = {0, 4}), text, at(9, 0), NO_BYTES);
+    item("a denied name that is not UTF-8", ITEM(.kind = 13, .body = {0, 2}), text, at(9, 0), NO_BYTES);
+    item("authentication that is not UTF-8", ITEM(.kind = 14, .body = {3, 1}), text, at(9, 0), NO_BYTES);
     struct bytes longest = times(65536, H("61"));
-    item("a cookie of 65,536 bytes", CELLS(5, 0, 0, 0, 65536, 0, 0), longest, 8, NO_BYTES);
-    item("a name of 65,536 bytes", CELLS(6, 0, 0, 0, 65536, 0, 0), longest, 8, NO_BYTES);
-    item("keys of 65,536 bytes", CELLS(12, 0, 0, 0, 32768, 32768, 32768), longest, 8, NO_BYTES);
-    item("a cookie of 65,535 bytes", CELLS(5, 0, 0, 1, 65535, 0, 0), longest, 0, join(H("0005 FFFF"), (struct bytes){65535, longest.p}));
+    item("a cookie of 65,536 bytes", ITEM(.kind = 5, .body = {0, 65536}), longest, at(8, 0), NO_BYTES);
+    item("a name of 65,536 bytes", ITEM(.kind = 6, .body = {0, 65536}), longest, at(8, 0), NO_BYTES);
+    item("keys of 65,536 bytes", ITEM(.kind = 12, .body = {0, 32768}, .second = {32768, 32768}), longest, at(8, 0), NO_BYTES);
+    item("a cookie of 65,535 bytes", ITEM(.kind = 5, .body = {1, 65535}), longest, 0, join(H("0005 FFFF"), (struct bytes){65535, longest.p}));
+}
+
+/* The header's own functions: a word taken apart and told, the code of an error, and the exporter's context. */
+static void header(void)
+{
+    static const struct { uint64_t word; unsigned refusal, beside; unsigned long place; int has; } words[] = {
+        {0, 0, 0, 0, 0},
+        {9, 9, 0, 0, 0},
+        {0x0000000C00000001, 1, 0, 12, 0},
+        {0x0000005A00100005, 5, 16, 90, 1},
+        {0x000000000000000B, 11, 0, 0, 1},
+        {0x00000004FFFF000B, 11, 65535, 4, 1},
+        {0xFFFFFFFF0007000C, 12, 7, 4294967295, 1},
+        {0xFFFFFFFFFFFFFFFF, 65535, 65535, 4294967295, 0},
+    };
+    for (size_t i = 0; i < sizeof words / sizeof *words; i++) {
+        check(ntske_refusal(words[i].word) == words[i].refusal, "a word", "refusal", i);
+        check(ntske_beside(words[i].word) == words[i].beside, "a word", "beside", i);
+        check(ntske_place(words[i].word) == words[i].place, "a word", "place", i);
+        check(ntske_has_beside(words[i].word) == words[i].has, "a word", "whether a number is beside", i);
+    }
+
+    static const char *const said[16] = {
+        "accepted",
+        "bytes are missing",
+        "a body is ill-formed",
+        "an unknown record has its critical bit set",
+        "the set of records is not allowed",
+        "the algorithm is not 15 or 17",
+        "a key half has the wrong length",
+        "more names or cookies than the table or the plan holds",
+        "a body to write is longer than 65,535 bytes",
+        "the value is no record, plan or tray",
+        "the output is too short",
+        "the reply has an error record",
+        "the reply has a warning record",
+        "no protocol in common",
+        "no algorithm in common",
+        "no cookie",
+    };
+    static const uint16_t codes[16] = {2, 1, 1, 0, 1, 1, 1, 2, 2, 2, 2, 2, 2, 2, 2, 2};
+    for (unsigned i = 0; i < 16; i++)
+        for (unsigned j = 0; j < 2; j++) {
+            uint64_t answer = j ? with(i, 65535, 4294967295) : i;
+            check(strcmp(ntske_words(answer), said[i]) == 0, "in words", ntske_words(answer), i);
+            check(ntske_error_code(answer) == codes[i], "a code", "for the refusal", i);
+        }
+    check(strcmp(ntske_words(16), "a refusal that this header does not know") == 0, "in words", ntske_words(16), 16);
+    check(strcmp(ntske_words(65535), ntske_words(16)) == 0, "in words", ntske_words(65535), 65535);
+    check(ntske_error_code(16) == NTSKE_CODE_INTERNAL_SERVER_ERROR, "a code", "for the refusal", 16);
+
+    /* RFC 8915, section 5.1: two bytes of the protocol, two of the algorithm, and 0 for the key from client to server or 1 for the other */
+    static const struct { uint16_t protocol, algorithm; int s2c; const char *context; } contexts[] = {
+        {NTSKE_NTPV4, NTSKE_AES_SIV_CMAC_256, 0, "0000 000F 00"},
+        {NTSKE_NTPV4, NTSKE_AES_SIV_CMAC_256, 1, "0000 000F 01"},
+        {NTSKE_NTPV4, NTSKE_AES_SIV_CMAC_512, 1, "0000 0011 01"},
+        {NTSKE_DRAFT_NTPV5, 0x1234, 0, "8001 1234 00"},
+        {0x1234, 0xFEDC, 256, "1234 FEDC 01"},
+    };
+    for (size_t i = 0; i < sizeof contexts / sizeof *contexts; i++) {
+        uint8_t *c = lend(NULL, NTSKE_CONTEXT_LEN);
+        struct bytes want = H(contexts[i].context);
+        ntske_context(contexts[i].protocol, contexts[i].algorithm, contexts[i].s2c, c);
+        becomes(c, 0, want.p, want.n);
+        after("the exporter's context", NTSKE_OK, NTSKE_OK);
+    }
+    check(strcmp(NTSKE_ALPN, "ntske/1") == 0 && NTSKE_PORT == 4460, "TLS", "name and port", NTSKE_PORT);
+    check(strcmp(NTSKE_EXPORTER_LABEL, "EXPORTER-network-time-security") == 0, "TLS", "the exporter's label", 0);
+    check(ntske_version() == NTSKE_VERSION, "the version", "of header and archive", (size_t)ntske_version());
 }
 
 int main(void)
@@ -768,10 +999,13 @@ int main(void)
     for (at_the_end_of_a_page = 0; at_the_end_of_a_page < 2; at_the_end_of_a_page++) {
         taken = 0;
         reading();
+        listing();
         choosing();
         planning();
+        denying();
         writing();
         records();
+        header();
     }
     for (size_t i = 1; i < 16; i++)
         check(seen[i] > 0, "every refusal is seen", "not this one", i);

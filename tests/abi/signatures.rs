@@ -2,14 +2,30 @@
 //!
 //! Reads each `#[no_mangle] pub extern "C" fn` of the crates with calls, puts its arguments into C's and into Rust's form, and compares them, by
 //! name, type and order, with include/ntske.h and with bindings/rust/src/raw.rs; compares the functions that `nm` shows in the archive, which
-//! may need nothing from outside but what a compiler itself calls to move memory; and asks that tests/abi/calls.c calls each. The numbers of
-//! cells and of refusals in the header are held against the source, too. One line a function; the status is 0 only where nothing differs.
+//! may need nothing from outside but what a compiler itself calls to move memory; and asks that tests/abi/calls.c calls each, and each inline
+//! function of the header. An array that is lent is a struct in C: it has as many cells as the array, and the header asserts where each field
+//! lies. The numbers of the header are held against the source, too, its words against bindings/rust/src/refusal.rs, and its lines have at most
+//! 100 columns. One line a function; the status is 0 only where nothing differs.
 
 use std::collections::BTreeMap;
 use std::process::{Command, ExitCode};
 
 /// The crates that have calls of a host.
-const CRATES: [&str; 4] = ["reading", "handing", "planning", "writing"];
+const CRATES: [&str; 5] = ["reading", "handing", "planning", "writing", "showing"];
+
+/// The struct in C of a lent array: the function (of any where there is none), the argument, how many cells, and the struct.
+const STRUCTS: [(&str, &str, usize, &str); 10] = [
+    ("ntske_read_request", "answer", 10, "ntske_request"),
+    ("ntske_read_reply", "answer", 9, "ntske_reply"),
+    ("ntske_read_record", "answer", 8, "ntske_record_read"),
+    ("ntske_part", "answer", 2, "ntske_range"),
+    ("ntske_entry", "answer", 2, "ntske_range"),
+    ("ntske_number", "answer", 3, "ntske_listed"),
+    ("ntske_pair", "answer", 3, "ntske_listed"),
+    ("ntske_choose", "answer", 2, "ntske_choice"),
+    ("", "plan", 8, "ntske_plan"),
+    ("", "item", 7, "ntske_record"),
+];
 
 /// Name, arguments and result, as text in one spacing.
 #[derive(Clone, PartialEq)]
@@ -31,7 +47,7 @@ fn main() -> ExitCode {
     let source: String = CRATES.iter().map(|name| read(&format!("crates/{name}/src/lib.rt"))).collect();
     let exported = exported(&source);
     let header_text = read("include/ntske.h");
-    let header = declared_in_c(&header_text);
+    let header = Header::of(&header_text);
     let raw = declared_in_rust(&read("bindings/rust/src/raw.rs"));
     let calls = read("tests/abi/calls.c");
     let (defined, needed) = symbols(archive);
@@ -42,22 +58,10 @@ fn main() -> ExitCode {
         println!("DIFFERS {what}");
     };
     for (name, source) in &exported {
-        let in_c = mapped(source, |ty, name| match ty {
-            "&[u8]" => slice("const uint8_t *", "size_t ", name),
-            "&[u16]" => slice("const uint16_t *", "size_t ", name),
-            "&[usize]" => slice("const size_t *", "size_t ", name),
-            "&mut [u8]" => slice("uint8_t *", "size_t ", name),
-            "&mut [u16]" => slice("uint16_t *", "size_t ", name),
-            "&mut [usize]" => slice("size_t *", "size_t ", name),
-            number => vec![format!("{} {name}", c_number(number))],
-        });
-        let in_c = Signature { result: c_number(&source.result).into(), ..in_c };
-        let in_rust = mapped(source, |ty, name| match ty {
-            "&[u8]" | "&[u16]" | "&[usize]" => rust_slice("*const ", &ty[2..ty.len() - 1], name),
-            "&mut [u8]" | "&mut [u16]" | "&mut [usize]" => rust_slice("*mut ", &ty[6..ty.len() - 1], name),
-            number => vec![format!("{name}: {number}")],
-        });
-        for (place, ours, theirs) in [("include/ntske.h", &in_c, &header), ("bindings/rust/src/raw.rs", &in_rust, &raw)]
+        let in_c = in_c(name, source);
+        let in_rust = in_rust(source);
+        for (place, ours, theirs) in
+            [("include/ntske.h", &in_c, &header.declared), ("bindings/rust/src/raw.rs", &in_rust, &raw)]
         {
             match theirs.get(name) {
                 None => differs(format!("{name}: not in {place}")),
@@ -70,12 +74,14 @@ fn main() -> ExitCode {
         if !defined.contains(name) {
             differs(format!("{name}: not in the archive"));
         }
+        println!("{name}{}", shown(&in_c));
+    }
+    for name in exported.keys().chain(&header.inline) {
         if !calls.contains(&format!("{name}(")) {
             differs(format!("{name}: not called in tests/abi/calls.c"));
         }
-        println!("{} {name}{}", in_c.result, shown(&in_c));
     }
-    for (place, theirs) in [("include/ntske.h", &header), ("bindings/rust/src/raw.rs", &raw)] {
+    for (place, theirs) in [("include/ntske.h", &header.declared), ("bindings/rust/src/raw.rs", &raw)] {
         for name in theirs.keys().filter(|name| !exported.contains_key(*name)) {
             differs(format!("{name}: in {place} and not in the source"));
         }
@@ -87,16 +93,11 @@ fn main() -> ExitCode {
     {
         differs(format!("{name}: the archive needs it from outside"));
     }
-    for (name, value) in constants(&source) {
-        if !header_text.contains(&format!("#define NTSKE_{name} {value}\n")) {
-            differs(format!("NTSKE_{name}: the header has not {value}"));
-        }
-    }
-    let refusals = refusals(&read("crates/nts/src/lib.rt"));
-    let listed: Vec<&str> =
-        between(&header_text, "enum ntske_refusal {", "}").split(',').map(|entry| entry.trim()).collect();
-    if refusals.len() != 15 || listed != refusals {
-        differs(format!("the refusals: source {refusals:?}, header {listed:?}"));
+    header.layouts(&header_text).into_iter().for_each(&mut differs);
+    numbers(&header_text, &read).into_iter().for_each(&mut differs);
+    words(&header_text, &read("bindings/rust/src/refusal.rs")).into_iter().for_each(&mut differs);
+    for (i, line) in header_text.lines().enumerate().filter(|(_, line)| line.chars().count() > 100) {
+        differs(format!("include/ntske.h, line {}: {} columns", i + 1, line.chars().count()));
     }
     println!("{} functions, {differences} differences", exported.len());
     if exported.is_empty() || differences > 0 {
@@ -104,6 +105,8 @@ fn main() -> ExitCode {
     }
     ExitCode::SUCCESS
 }
+
+// ---- the source
 
 /// The exported functions of Rattle source, their arguments as `name: type`.
 fn exported(source: &str) -> Signatures {
@@ -135,68 +138,396 @@ fn rust_signature(text: &str) -> (String, Signature) {
     (name.trim().into(), Signature { arguments, result: result.into() })
 }
 
-/// The functions that a header declares.
-fn declared_in_c(text: &str) -> Signatures {
-    let mut plain = String::new();
-    let mut rest = text;
-    while let Some((before, comment)) = rest.split_once("/*") {
-        plain += before;
-        rest = comment.split_once("*/").expect("the end of a comment").1;
-    }
-    plain += rest;
-    let plain: Vec<&str> = plain.lines().filter(|line| !line.starts_with('#')).collect();
-    let mut found = Signatures::new();
-    for declaration in plain.join(" ").split(';') {
-        let Some((head, arguments)) = declaration.split_once('(') else { continue };
-        let words: Vec<&str> = head.split_whitespace().collect();
-        let [.., result, name] = words[..] else { panic!("no declaration: {declaration}") };
-        let arguments = split(arguments.split_once(')').expect("the end of the arguments").0);
-        let signature = Signature { arguments, result: result.into() };
-        assert!(found.insert(name.into(), signature).is_none(), "{name} is declared twice");
-    }
-    found
+/// A type of the source, as far as an argument has one.
+enum Type<'t> {
+    Number(&'t str),
+    Slice { element: &'t str, written: bool },
+    Array { cells: usize, written: bool },
 }
 
-fn split(arguments: &str) -> Vec<String> {
-    let spaced = |argument: &str| argument.split_whitespace().collect::<Vec<_>>().join(" ");
-    arguments.split(',').map(spaced).filter(|argument| !argument.is_empty()).collect()
+fn type_of(text: &str) -> Type<'_> {
+    let Some(lent) = text.strip_prefix('&') else { return Type::Number(text) };
+    let (lent, written) = lent.strip_prefix("mut ").map_or((lent, false), |lent| (lent, true));
+    let inner = lent.strip_prefix('[').and_then(|lent| lent.strip_suffix(']')).expect("a slice or an array");
+    match inner.split_once("; ") {
+        None => Type::Slice { element: inner, written },
+        Some(("usize", cells)) => Type::Array { cells: cells.parse().expect("a length"), written },
+        Some((element, _)) => panic!("no form for an array of {element}"),
+    }
 }
 
 /// A signature of the source with each argument in another form.
-fn mapped(source: &Signature, form: impl Fn(&str, &str) -> Vec<String>) -> Signature {
+fn mapped(source: &Signature, form: impl Fn(Type<'_>, &str) -> Vec<String>) -> Vec<String> {
     let one = |argument: &String| {
         let (name, ty) = argument.split_once(": ").expect("an argument has a type");
-        form(ty, name)
+        form(type_of(ty), name)
     };
-    Signature { arguments: source.arguments.iter().flat_map(one).collect(), result: source.result.clone() }
+    source.arguments.iter().flat_map(one).collect()
 }
 
-fn slice(pointer: &str, length: &str, name: &str) -> Vec<String> {
-    vec![format!("{pointer}{name}"), format!("{length}{name}_len")]
+fn in_c(function: &str, source: &Signature) -> Signature {
+    let constant = |written: bool| if written { "" } else { "const " };
+    let mut arguments = mapped(source, |ty, name| match ty {
+        Type::Number(number) => vec![format!("{} {name}", c_number(number))],
+        Type::Slice { element, written } => {
+            vec![format!("{}{} *{name}", constant(written), c_number(element)), format!("size_t {name}_len")]
+        }
+        Type::Array { cells, written } => {
+            vec![format!("{}{} *{name}", constant(written), array(function, name, cells))]
+        }
+    });
+    if arguments.is_empty() {
+        arguments.push("void".into());
+    }
+    Signature { arguments, result: c_number(&source.result).into() }
 }
 
-fn rust_slice(pointer: &str, element: &str, name: &str) -> Vec<String> {
-    vec![format!("{name}: {pointer}{}", element.trim_start_matches('[')), format!("{name}_len: usize")]
+fn in_rust(source: &Signature) -> Signature {
+    let pointer = |written: bool| if written { "*mut" } else { "*const" };
+    let arguments = mapped(source, |ty, name| match ty {
+        Type::Number(number) => vec![format!("{name}: {number}")],
+        Type::Slice { element, written } => {
+            vec![format!("{name}: {} {element}", pointer(written)), format!("{name}_len: usize")]
+        }
+        Type::Array { cells, written } => vec![format!("{name}: {} [usize; {cells}]", pointer(written))],
+    });
+    Signature { arguments, result: source.result.clone() }
+}
+
+/// The type in C of a lent array: one cell is a `size_t`, more are a struct.
+fn array(function: &str, argument: &str, cells: usize) -> String {
+    let fits =
+        |of: &(&str, &str, usize, &str)| (of.0.is_empty() || of.0 == function) && of.1 == argument && of.2 == cells;
+    match STRUCTS.iter().find(|of| fits(of)) {
+        Some(of) => format!("struct {}", of.3),
+        None if cells == 1 => "size_t".into(),
+        None => panic!("{function}: no struct is known for {argument} of {cells} cells"),
+    }
 }
 
 fn c_number(ty: &str) -> &'static str {
     match ty {
         "u8" => "uint8_t",
         "u16" => "uint16_t",
-        "u32" => "uint32_t",
+        "u64" => "uint64_t",
         "usize" => "size_t",
         other => panic!("no form in C for {other}"),
     }
 }
 
-fn shown(signature: &Signature) -> String {
-    format!("({})", signature.arguments.join(", "))
+// ---- the header
+
+/// What a header has: the functions that it declares, those that it defines, and its structs with their fields, `type name` each; a union
+/// without a name is the field `union` with its members behind it.
+struct Header {
+    declared: Signatures,
+    inline: Vec<String>,
+    structs: BTreeMap<String, Vec<String>>,
 }
 
-fn between<'t>(text: &'t str, from: &str, to: &str) -> &'t str {
-    let rest = text.split_once(from).unwrap_or_else(|| panic!("no {from}")).1;
-    rest.split_once(to).unwrap_or_else(|| panic!("no {to} after {from}")).0
+impl Header {
+    fn of(text: &str) -> Self {
+        let mut header = Self { declared: Signatures::new(), inline: vec![], structs: BTreeMap::new() };
+        for item in items(&plain(text)) {
+            let (head, inside) = item.split_once('{').unwrap_or((&item, ""));
+            let words: Vec<&str> = head.split_whitespace().collect();
+            match words[..] {
+                ["struct", name] => {
+                    let fields = inside.rsplit_once('}').expect("the end of a struct").0;
+                    header.structs.insert(name.into(), split_at(fields, ';'));
+                }
+                ["enum", _] | ["static", "const", ..] => {}
+                ["static", "inline", ..] => {
+                    let name = head.split_once('(').expect("arguments").0;
+                    header.inline.push(name.rsplit([' ', '*']).next().unwrap_or_default().into());
+                }
+                [first, ..] if first.starts_with("NTSKE_CELL") => {}
+                _ => {
+                    let (head, arguments) = head.split_once('(').unwrap_or_else(|| panic!("no declaration: {item}"));
+                    let words: Vec<&str> = head.split_whitespace().collect();
+                    let [result, name] = words[..] else { panic!("no declaration: {item}") };
+                    let arguments = split(arguments.split_once(')').expect("the end of the arguments").0);
+                    let signature = Signature { arguments, result: result.into() };
+                    let before = header.declared.insert(name.into(), signature);
+                    assert!(before.is_none(), "{name} is declared twice");
+                }
+            }
+        }
+        header
+    }
+
+    /// How many cells a type has.
+    fn cells(&self, ty: &str) -> usize {
+        match ty.strip_prefix("struct ") {
+            None if ty == "size_t" => 1,
+            None => panic!("a field of a struct is no {ty}"),
+            Some(name) => self.fields(name).iter().map(|(_, at, n)| at + n).max().expect("a struct has a field"),
+        }
+    }
+
+    /// The fields of a struct: the path to each, where it begins, and how many cells it has. Of a union's members the fields are told.
+    fn fields(&self, name: &str) -> Vec<(String, usize, usize)> {
+        let (mut found, mut at) = (vec![], 0);
+        for field in self.structs.get(name).unwrap_or_else(|| panic!("no struct {name}")) {
+            if let Some(members) = field.strip_prefix("union {").and_then(|rest| rest.strip_suffix('}')) {
+                let mut most = 0;
+                for (ty, name) in split_at(members, ';').iter().map(|member| typed(member)) {
+                    let of = ty.strip_prefix("struct ").expect("a union is of structs");
+                    for (path, offset, n) in self.fields(of) {
+                        found.push((format!("{name}.{path}"), at + offset, n));
+                    }
+                    most = most.max(self.cells(&ty));
+                }
+                at += most;
+            } else {
+                let (ty, name) = typed(field);
+                let n = self.cells(&ty);
+                found.push((name, at, n));
+                at += n;
+            }
+        }
+        found
+    }
+
+    /// That each struct which is lent has as many cells as the array, and that the header asserts its size and where each field lies.
+    fn layouts(&self, text: &str) -> Vec<String> {
+        let mut found = vec![];
+        for (_, argument, cells, name) in STRUCTS {
+            let told = self.cells(&format!("struct {name}"));
+            if told != cells {
+                found.push(format!("struct {name}: {told} cells, and {argument} has {cells}"));
+            }
+            let mut asserted = vec![format!("NTSKE_CELLS({name}, {cells});")];
+            for (path, at, _) in self.fields(name) {
+                asserted.push(format!("NTSKE_CELL({name}, {path}, {at});"));
+            }
+            for line in asserted {
+                if !text.lines().any(|there| there == line) {
+                    found.push(format!("struct {name}: the header does not say {line}"));
+                }
+            }
+        }
+        found.sort();
+        found.dedup();
+        found
+    }
 }
+
+/// A header's text without comments, without lines of the preprocessor, and without what is for C++ alone.
+fn plain(text: &str) -> String {
+    let mut uncommented = String::new();
+    let mut rest = text;
+    while let Some((before, comment)) = rest.split_once("/*") {
+        uncommented += before;
+        rest = comment.split_once("*/").expect("the end of a comment").1;
+    }
+    uncommented += rest;
+    let (mut plain, mut skips) = (String::new(), false);
+    for line in uncommented.replace("\\\n", " ").lines() {
+        match line.split_whitespace().collect::<Vec<_>>()[..] {
+            ["#ifdef", "__cplusplus"] => skips = true,
+            ["#else"] | ["#endif"] => skips = false,
+            [word, ..] if word.starts_with('#') || skips => {}
+            _ => plain = plain + line + "\n",
+        }
+    }
+    plain
+}
+
+/// What stands outside of all braces, one after the other: declarations, up to their `;`, and functions, up to their `}`.
+fn items(text: &str) -> Vec<String> {
+    let (mut found, mut item, mut depth) = (vec![], String::new(), 0);
+    for letter in text.chars() {
+        match letter {
+            '{' => depth += 1,
+            '}' => depth -= 1,
+            _ => {}
+        }
+        if letter != ';' || depth > 0 {
+            item.push(letter);
+        }
+        if depth == 0 && (letter == ';' || letter == '}' && item.trim_start().starts_with("static inline")) {
+            found.push(spaced(&item));
+            item.clear();
+        }
+    }
+    assert!(item.trim().is_empty(), "the header ends in {item}");
+    found
+}
+
+/// `type name`, taken apart.
+fn typed(field: &str) -> (String, String) {
+    let (ty, name) = field.rsplit_once(' ').unwrap_or_else(|| panic!("no field: {field}"));
+    (ty.into(), name.into())
+}
+
+// ---- the header's numbers
+
+/// `NAME = number` in C's form, one after the other.
+type Numbers = Vec<(String, u64)>;
+
+/// Each number of the header, held against the source that has it.
+fn numbers(header: &str, read: &impl Fn(&str) -> String) -> Vec<String> {
+    let crate_text = |name: &str| read(&format!("crates/{name}/src/lib.rt"));
+    let (nts, record, plan) = (crate_text("nts"), crate_text("record"), crate_text("plan"));
+    let (reading, writing, cells) = (crate_text("reading"), crate_text("writing"), crate_text("cells"));
+    let handing = crate_text("handing");
+    let mut found = vec![];
+
+    let error_arms = |function: &str| arms(between(&nts, function, "\n    }\n"), "NtsError::");
+    let refusals: Numbers = error_arms("pub fn number(self) -> u8")
+        .into_iter()
+        .map(|(name, told)| (in_capitals(&name), number(first_of(&told))))
+        .collect();
+    let sorts = arms(between(&reading, "fn request_cells(", "\n}\n"), "Request::");
+    let sorts = sorts
+        .into_iter()
+        .map(|(name, arm)| (in_capitals(&name), number(first_of(arm.split_once('[').expect("an array of cells").1))))
+        .collect();
+    let asked = between(&writing, "    Asked {\n", "    }\n").lines().map(|line| {
+        let (name, bit) = line.trim().split_once(": n").expect("a flag of what is asked");
+        let value = bit.trim().strip_prefix("/ ").map_or(1, |bit| number(first_of(bit)));
+        (name.to_ascii_uppercase(), value)
+    });
+    let (kinds, codes) = (constants(&record, "NtsRecord"), constants(&nts, "ErrorCode"));
+    let (algorithms, keys): (Numbers, Numbers) =
+        constants(&nts, "AeadAlgorithm").into_iter().partition(|(name, _)| name.starts_with("AES_"));
+    let of_plan = constants(&plan, "Plan");
+    let one = |name: &str| of_plan.iter().find(|of| of.0 == name).unwrap_or_else(|| panic!("no Plan::{name}")).1;
+    let tags = vec![("COOKIE".to_string(), one("COOKIE")), ("DENIED".to_string(), one("DENIED"))];
+    for (name, prefix, ours, least) in [
+        ("ntske_refusals", "NTSKE_", refusals, 15),
+        ("ntske_kinds", "NTSKE_KIND_", kinds, 14),
+        ("ntske_sorts", "NTSKE_", sorts, 3),
+        ("ntske_protocols", "NTSKE_", constants(&nts, "NextProtocol"), 2),
+        ("ntske_algorithms", "NTSKE_", algorithms, 2),
+        ("ntske_key_lengths", "NTSKE_", keys, 2),
+        ("ntske_error_codes", "NTSKE_CODE_", codes, 3),
+        ("ntske_asked", "NTSKE_", asked.collect(), 3),
+        ("ntske_tags", "NTSKE_TAG_", tags, 2),
+    ] {
+        let ours: Numbers = ours.into_iter().map(|(of, value)| (format!("{prefix}{of}"), value)).collect();
+        let theirs: Numbers = between(header, &format!("enum {name} {{"), "}")
+            .split(',')
+            .filter_map(|entry| entry.split_once('='))
+            .map(|(of, value)| (of.trim().into(), number(value)))
+            .collect();
+        if ours.len() < least || ours != theirs {
+            found.push(format!("enum {name}:\n  source {ours:?}\n  there  {theirs:?}"));
+        }
+    }
+
+    // each by itself; a limit has sixteen bits, and a listing's output is the program's
+    assert!(reading.contains("    limit: u16,\n"), "a limit has sixteen bits");
+    let version = number(between(&handing, "const VERSION: u64 = ", ";"));
+    for (name, value) in [
+        ("VERSION", version),
+        ("MOST_COOKIES", one("COOKIES")),
+        ("FIELD_HEADER", one("FIELD_HEADER")),
+        ("LIMIT", u64::from(u16::MAX)),
+        ("LISTING", number(between(&read("crates/kelist/src/main.rt"), "let mut out = [0u8; ", "]"))),
+        ("OK", 0),
+    ] {
+        let told = between(header, &format!("#define NTSKE_{name} "), "\n");
+        if number(told) != value {
+            found.push(format!("NTSKE_{name}: {told}, and in the source {value}"));
+        }
+    }
+
+    let of_package = format!("version = \"{}.{}.{}\"\n", version >> 16, version >> 8 & 255, version & 255);
+    if !read("bindings/rust/Cargo.toml").contains(&of_package) {
+        found.push(format!("bindings/rust/Cargo.toml: not {}", of_package.trim_end()));
+    }
+
+    // a word taken apart: where each number begins, and which refusals have one beside them
+    let (beside, place) = (between(&cells, "const BESIDE: u64 = ", ";"), between(&cells, "const PLACE: u64 = ", ";"));
+    for (value, bit, shift) in [(beside, 16, "(answer >> 16 & 0xFFFF)"), (place, 32, "(answer >> 32)")] {
+        if number(value) != 1 << bit || !header.contains(shift) {
+            found.push(format!("a word: {value} in the source, and {shift} in the header"));
+        }
+    }
+    let ours: Vec<String> = error_arms("pub fn code(self) -> Code")
+        .into_iter()
+        .filter(|(_, beside)| beside.starts_with("Code::Number"))
+        .map(|(name, _)| format!("n == NTSKE_{}", in_capitals(&name)))
+        .collect();
+    if !spaced(between(header, "ntske_has_beside(", "\n}\n")).contains(&format!("return {};", ours.join(" || "))) {
+        found.push(format!("ntske_has_beside: source {ours:?}"));
+    }
+    found
+}
+
+/// The header's words for each refusal, which the binding for Rust has in the same order.
+fn words(header: &str, refusal: &str) -> Vec<String> {
+    let table = between(header, "words[] = {", "};");
+    let said: Vec<&str> = table.split('"').skip(1).step_by(2).collect();
+    let mut found = vec![];
+    if said.len() != 16 {
+        found.push(format!("ntske_words: {} sentences for 0 to 15", said.len()));
+    }
+    let mut rest = refusal;
+    for (n, sentence) in said.iter().enumerate().skip(1) {
+        let forms = [format!("\"{sentence}\""), format!("\"{sentence}, ")];
+        match forms.iter().filter_map(|form| rest.find(form.as_str())).min() {
+            Some(at) => rest = &rest[at..],
+            None => found.push(format!("ntske_words: refusal.rs does not say {n}, {sentence}, behind those before it")),
+        }
+    }
+    found
+}
+
+/// The constants of a type that are numbers, bare or under a type of their own, in their order.
+fn constants(source: &str, of: &str) -> Numbers {
+    let mut found = vec![];
+    for line in between(source, &format!("impl {of} {{"), "\n}\n").lines() {
+        let Some((name, rest)) = line.trim().strip_prefix("pub const ").and_then(|line| line.split_once(": ")) else {
+            continue;
+        };
+        let (ty, value) = rest.trim_end_matches(';').split_once(" = ").expect("a constant has a value");
+        let value = value.trim_start_matches(ty).trim_matches(['(', ')']);
+        if value.starts_with(|c: char| c.is_ascii_digit()) {
+            found.push((name.into(), number(value)));
+        }
+    }
+    found
+}
+
+/// The arms of a match over a type's cases: the case's name, and what stands behind the arrow, up to the next arm.
+fn arms(text: &str, of: &str) -> Vec<(String, String)> {
+    let mut found = vec![];
+    for arm in text.split(of).skip(1) {
+        let name = arm.split(|c: char| !c.is_alphanumeric()).next().unwrap_or_default();
+        if let Some((_, value)) = arm.split_once("=> ") {
+            found.push((name.into(), spaced(value)));
+        }
+    }
+    found
+}
+
+/// A name in C's form: each capital begins a word.
+fn in_capitals(name: &str) -> String {
+    let mut c = String::new();
+    for letter in name.chars() {
+        if letter.is_ascii_uppercase() && !c.is_empty() {
+            c.push('_');
+        }
+        c.push(letter.to_ascii_uppercase());
+    }
+    c
+}
+
+/// The first number in a text.
+fn first_of(text: &str) -> &str {
+    text.split(|c: char| !c.is_ascii_digit()).find(|digits| !digits.is_empty()).expect("a number")
+}
+
+fn number(text: &str) -> u64 {
+    let text = text.trim();
+    let read = text.strip_prefix("0x").map_or_else(|| text.parse(), |digits| u64::from_str_radix(digits, 16));
+    read.unwrap_or_else(|e| panic!("{text}: {e}"))
+}
+
+// ---- the archive
 
 /// The symbols of an archive: those that it shows to a linker, and those that it needs.
 fn symbols(archive: &str) -> (Vec<String>, Vec<String>) {
@@ -213,28 +544,41 @@ fn symbols(archive: &str) -> (Vec<String>, Vec<String>) {
     (defined, needed)
 }
 
-/// The numbers of cells.
-fn constants(source: &str) -> Vec<(&str, &str)> {
-    let value = |name| (name, between(source, &format!("const {name}: usize = "), ";"));
-    ["ANSWER", "PLAN", "RECORD"].into_iter().map(value).collect()
+// ---- text
+
+fn shown(signature: &Signature) -> String {
+    format!("({}) -> {}", signature.arguments.join(", "), signature.result)
 }
 
-/// The refusals in C's form, from the function that numbers them.
-fn refusals(source: &str) -> Vec<String> {
-    let arms = between(source, "pub fn number(self) -> u8", "\n    }\n");
-    let mut found = vec![];
-    for line in arms.lines() {
-        let Some((name, number)) = line.trim().strip_prefix("NtsError::").and_then(|arm| arm.split_once(" => ")) else {
-            continue;
-        };
-        let mut c = String::from("NTSKE");
-        for letter in name.trim_end_matches("(_)").chars() {
-            if letter.is_ascii_uppercase() {
-                c.push('_');
-            }
-            c.push(letter.to_ascii_uppercase());
+fn between<'t>(text: &'t str, from: &str, to: &str) -> &'t str {
+    let rest = text.split_once(from).unwrap_or_else(|| panic!("no {from}")).1;
+    rest.split_once(to).unwrap_or_else(|| panic!("no {to} after {from}")).0
+}
+
+fn spaced(text: &str) -> String {
+    text.split_whitespace().collect::<Vec<_>>().join(" ")
+}
+
+fn split(arguments: &str) -> Vec<String> {
+    split_at(arguments, ',')
+}
+
+/// A text's parts outside of braces, each in one spacing.
+fn split_at(text: &str, sign: char) -> Vec<String> {
+    let (mut found, mut part, mut depth) = (vec![], String::new(), 0);
+    for letter in text.chars().chain([sign]) {
+        match letter {
+            '{' => depth += 1,
+            '}' => depth -= 1,
+            _ => {}
         }
-        found.push(format!("{c} = {}", number.trim_end_matches(',')));
+        if letter == sign && depth == 0 {
+            found.push(spaced(&part));
+            part.clear();
+        } else {
+            part.push(letter);
+        }
     }
+    found.retain(|part| !part.is_empty());
     found
 }

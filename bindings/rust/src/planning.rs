@@ -1,10 +1,13 @@
 //! The plan of a reply.
 
+use crate::refusal::accepted;
+use crate::views::hides;
 use crate::writing::{count, front};
 use crate::{raw, AeadAlgorithm, Name, NextProtocol, Refused};
 use core::fmt;
 
-/// A buffer for the cookies of a plan, to which it belongs from then on: nothing else can be written into it.
+/// A buffer for the cookies of a plan, to which it belongs from then on: nothing else can be written into it. `{:?}`
+/// shows only how long it is.
 ///
 /// ```compile_fail,E0506
 /// # use ntske::{AeadAlgorithm, NextProtocol, Plan, Refused, Tray};
@@ -16,8 +19,9 @@ use core::fmt;
 /// # Ok(())
 /// # }
 /// ```
-#[derive(Debug)]
 pub struct Tray<'b>(&'b mut [u8]);
+
+hides!(Tray);
 
 impl<'b> Tray<'b> {
     /// An empty tray over a buffer; what that holds does not matter.
@@ -38,6 +42,9 @@ pub struct Plan<'b> {
 }
 
 impl<'b> Plan<'b> {
+    /// The most cookies that a plan takes.
+    pub const MOST_COOKIES: usize = 8;
+
     /// A plan with a protocol and an algorithm, and nothing else.
     pub fn new(protocol: NextProtocol, algorithm: AeadAlgorithm, tray: Tray<'b>) -> Self {
         let mut cells = [0; 8];
@@ -83,7 +90,7 @@ impl<'b> Plan<'b> {
 
     /// One cookie more. Refusals: 8; 7 for the ninth; 10 where the tray has no room.
     pub fn append(&mut self, cookie: &[u8]) -> Result<&mut Self, Refused> {
-        Refused::unless_zero(raw::plan_append(&mut self.cells, cookie, self.tray.0))?;
+        accepted(raw::plan_append(&mut self.cells, cookie, self.tray.0))?;
         Ok(self)
     }
 
@@ -99,8 +106,8 @@ impl<'b> Plan<'b> {
     pub fn write<'o>(&self, server: Option<Name<'_>>, out: &'o mut [u8]) -> Result<&'o mut [u8], Refused> {
         let mut written = [0];
         let server = server.map_or(&[][..], Name::bytes);
-        let number = raw::write_reply(&self.cells, self.tray.0, server, out, &mut written);
-        front(count(number, written), out)
+        let word = raw::write_reply(&self.cells, self.tray.0, server, out, &mut written);
+        front(count(word, written), out)
     }
 }
 
@@ -119,6 +126,8 @@ impl fmt::Debug for Plan<'_> {
 }
 
 /// What a call answers that has nothing to refuse: the cells are a plan, and the tray is its own.
-fn sure(number: u32) {
-    assert_eq!(number, 0, "libntske.a refuses a plan that it made");
+fn sure(word: u64) {
+    if let Err(why) = accepted(word) {
+        panic!("libntske.a refuses a plan that it made: {why}");
+    }
 }

@@ -1,9 +1,10 @@
-//! The functions of the archive, as include/ntske.h declares them, and a safe form of each over slices. tests/abi/signatures.rs holds the
-//! declarations against the source. Every `unsafe` of the crate is here.
+//! The functions of the archive, as include/ntske.h declares them, and a safe form of each over slices and arrays.
+//! tests/abi/signatures.rs holds the declarations against the source. Every `unsafe` of the crate is here.
 //!
-//! What holds for each call below: a pointer and the length behind it are of one slice, so it is not null, is aligned and points to that many
-//! elements; a slice that is written to is borrowed alone, so it overlaps no other; and no slice is longer than `isize::MAX` bytes. The call
-//! keeps no pointer.
+//! What holds for each call below: a pointer and the length behind it are of one slice, so it is not null, is aligned
+//! and points to that many elements; a pointer without a length is of one array of that size; what is written to is
+//! borrowed alone, so it overlaps nothing else; and no slice is longer than `isize::MAX` bytes. The call keeps no
+//! pointer. Each returns a word, which [`crate::Refusal::from_word`] takes apart.
 #![allow(unsafe_code)]
 
 use crate::{AeadAlgorithm, AlgorithmDescription, NextProtocol};
@@ -15,61 +16,43 @@ extern "C" {
         limit: u16,
         table: *mut u16,
         table_len: usize,
-        answer: *mut usize,
-        answer_len: usize,
-    ) -> u32;
+        answer: *mut [usize; 10],
+    ) -> u64;
     fn ntske_read_reply(
         message: *const u8,
         message_len: usize,
         limit: u16,
         table: *mut u16,
         table_len: usize,
-        answer: *mut usize,
-        answer_len: usize,
-    ) -> u32;
-    fn ntske_read_record(
-        message: *const u8,
-        message_len: usize,
-        place: usize,
-        answer: *mut usize,
-        answer_len: usize,
-    ) -> u32;
-    fn ntske_part(
-        message: *const u8,
-        message_len: usize,
-        start: usize,
-        len: usize,
-        answer: *mut usize,
-        answer_len: usize,
-    ) -> u32;
+        answer: *mut [usize; 9],
+    ) -> u64;
+    fn ntske_read_record(message: *const u8, message_len: usize, place: usize, answer: *mut [usize; 8]) -> u64;
+    fn ntske_is_utf8(bytes: *const u8, bytes_len: usize) -> u64;
+    fn ntske_part(message: *const u8, message_len: usize, start: usize, len: usize, answer: *mut [usize; 2]) -> u64;
     fn ntske_entry(
         message: *const u8,
         message_len: usize,
         table: *const u16,
         table_len: usize,
         index: usize,
-        answer: *mut usize,
-        answer_len: usize,
-    ) -> u32;
+        answer: *mut [usize; 2],
+    ) -> u64;
     fn ntske_number(
         message: *const u8,
         message_len: usize,
         start: usize,
         len: usize,
         index: usize,
-        answer: *mut usize,
-        answer_len: usize,
-    ) -> u32;
+        answer: *mut [usize; 3],
+    ) -> u64;
     fn ntske_pair(
         message: *const u8,
         message_len: usize,
         start: usize,
         len: usize,
         index: usize,
-        answer: *mut usize,
-        answer_len: usize,
-    ) -> u32;
-    fn ntske_is_utf8(bytes: *const u8, bytes_len: usize) -> u32;
+        answer: *mut [usize; 3],
+    ) -> u64;
     fn ntske_choose(
         protocols: *const u8,
         protocols_len: usize,
@@ -79,54 +62,46 @@ extern "C" {
         own_protocols_len: usize,
         own_algorithms: *const u16,
         own_algorithms_len: usize,
-        answer: *mut usize,
-        answer_len: usize,
-    ) -> u32;
-    fn ntske_plan_new(protocol: u16, algorithm: u16, plan: *mut usize, plan_len: usize) -> u32;
-    fn ntske_plan_set_port(plan: *mut usize, plan_len: usize, port: u16) -> u32;
-    fn ntske_plan_clear_port(plan: *mut usize, plan_len: usize) -> u32;
-    fn ntske_plan_set_name_length(plan: *mut usize, plan_len: usize, length: u16) -> u32;
-    fn ntske_plan_clear_name_length(plan: *mut usize, plan_len: usize) -> u32;
-    fn ntske_plan_set_keep_alive(plan: *mut usize, plan_len: usize) -> u32;
-    fn ntske_plan_clear_keep_alive(plan: *mut usize, plan_len: usize) -> u32;
+        answer: *mut [usize; 2],
+    ) -> u64;
+    fn ntske_choose_protocol(
+        protocols: *const u8,
+        protocols_len: usize,
+        own_protocols: *const u16,
+        own_protocols_len: usize,
+        answer: *mut [usize; 1],
+    ) -> u64;
+    fn ntske_key_length(algorithm: u16, answer: *mut [usize; 1]) -> u64;
+    fn ntske_version() -> u64;
+    fn ntske_plan_new(protocol: u16, algorithm: u16, plan: *mut [usize; 8]) -> u64;
+    fn ntske_plan_set_port(plan: *mut [usize; 8], port: u16) -> u64;
+    fn ntske_plan_clear_port(plan: *mut [usize; 8]) -> u64;
+    fn ntske_plan_set_name_length(plan: *mut [usize; 8], length: u16) -> u64;
+    fn ntske_plan_clear_name_length(plan: *mut [usize; 8]) -> u64;
+    fn ntske_plan_set_keep_alive(plan: *mut [usize; 8]) -> u64;
+    fn ntske_plan_clear_keep_alive(plan: *mut [usize; 8]) -> u64;
     fn ntske_plan_append(
-        plan: *mut usize,
-        plan_len: usize,
+        plan: *mut [usize; 8],
         cookie: *const u8,
         cookie_len: usize,
         tray: *mut u8,
         tray_len: usize,
-    ) -> u32;
-    fn ntske_plan_length(
-        plan: *const usize,
-        plan_len: usize,
-        tray: *const u8,
-        tray_len: usize,
-        length: *mut usize,
-        length_len: usize,
-    ) -> u32;
+    ) -> u64;
+    fn ntske_plan_length(plan: *const [usize; 8], tray: *const u8, tray_len: usize, length: *mut [usize; 1]) -> u64;
     fn ntske_write_reply(
-        plan: *const usize,
-        plan_len: usize,
+        plan: *const [usize; 8],
         tray: *const u8,
         tray_len: usize,
         server: *const u8,
         server_len: usize,
         out: *mut u8,
         out_len: usize,
-        written: *mut usize,
-        written_len: usize,
-    ) -> u32;
-    fn ntske_write_no_protocol(out: *mut u8, out_len: usize, written: *mut usize, written_len: usize) -> u32;
-    fn ntske_write_no_algorithm(
-        protocol: u16,
-        out: *mut u8,
-        out_len: usize,
-        written: *mut usize,
-        written_len: usize,
-    ) -> u32;
-    fn ntske_write_error(code: u16, out: *mut u8, out_len: usize, written: *mut usize, written_len: usize) -> u32;
-    fn ntske_write_support(
+        written: *mut [usize; 1],
+    ) -> u64;
+    fn ntske_write_no_protocol(out: *mut u8, out_len: usize, written: *mut [usize; 1]) -> u64;
+    fn ntske_write_no_algorithm(protocol: u16, out: *mut u8, out_len: usize, written: *mut [usize; 1]) -> u64;
+    fn ntske_write_error(code: u16, out: *mut u8, out_len: usize, written: *mut [usize; 1]) -> u64;
+    fn ntske_write_support_reply(
         asked: u8,
         pairs: *const u16,
         pairs_len: usize,
@@ -134,18 +109,16 @@ extern "C" {
         protocols_len: usize,
         out: *mut u8,
         out_len: usize,
-        written: *mut usize,
-        written_len: usize,
-    ) -> u32;
-    fn ntske_support_length(
+        written: *mut [usize; 1],
+    ) -> u64;
+    fn ntske_support_reply_length(
         asked: u8,
         pairs: *const u16,
         pairs_len: usize,
         protocols: *const u16,
         protocols_len: usize,
-        length: *mut usize,
-        length_len: usize,
-    ) -> u32;
+        length: *mut [usize; 1],
+    ) -> u64;
     fn ntske_write_request(
         protocols: *const u16,
         protocols_len: usize,
@@ -156,9 +129,8 @@ extern "C" {
         used: usize,
         out: *mut u8,
         out_len: usize,
-        written: *mut usize,
-        written_len: usize,
-    ) -> u32;
+        written: *mut [usize; 1],
+    ) -> u64;
     fn ntske_request_length(
         protocols: *const u16,
         protocols_len: usize,
@@ -167,50 +139,73 @@ extern "C" {
         tray: *const u8,
         tray_len: usize,
         used: usize,
-        length: *mut usize,
-        length_len: usize,
-    ) -> u32;
+        length: *mut [usize; 1],
+    ) -> u64;
+    fn ntske_append_denied(
+        name: *const u8,
+        name_len: usize,
+        tray: *mut u8,
+        tray_len: usize,
+        used: *mut [usize; 1],
+    ) -> u64;
     fn ntske_write_record(
-        item: *const usize,
-        item_len: usize,
+        item: *const [usize; 7],
         source: *const u8,
         source_len: usize,
         out: *mut u8,
         out_len: usize,
-        written: *mut usize,
-        written_len: usize,
-    ) -> u32;
+        written: *mut [usize; 1],
+    ) -> u64;
     fn ntske_record_length(
-        item: *const usize,
-        item_len: usize,
+        item: *const [usize; 7],
         source: *const u8,
         source_len: usize,
-        length: *mut usize,
-        length_len: usize,
-    ) -> u32;
+        length: *mut [usize; 1],
+    ) -> u64;
+    fn ntske_list(
+        message: *const u8,
+        message_len: usize,
+        limit: u16,
+        room: usize,
+        out: *mut u8,
+        out_len: usize,
+        written: *mut [usize; 1],
+    ) -> u64;
 }
 
-/// What a reader answers, or the parts of its refusal.
-pub(crate) type Answer = [usize; 10];
+/// A request that was read: its sort, and what belongs to it.
+pub type RequestCells = [usize; 10];
+
+/// A reply that was read.
+pub type ReplyCells = [usize; 9];
+
+/// A record that was read, and the place after it.
+pub type ReadCells = [usize; 8];
+
+/// A record that is to be written: as it was read, without the place after it.
+pub type RecordCells = [usize; 7];
 
 /// A plan.
-pub(crate) type PlanCells = [usize; 8];
+pub type PlanCells = [usize; 8];
 
-/// A record that is to be written.
-pub(crate) type RecordCells = [usize; 7];
+/// One number: a length, a count of bytes, or a protocol.
+pub type Count = [usize; 1];
 
 // ---- slices of numbers of one kind as slices of u16
 
+#[inline]
 fn protocol_numbers(list: &[NextProtocol]) -> &[u16] {
     // Safety: NextProtocol is transparent over u16, so the slice has the same place, length and life.
     unsafe { core::slice::from_raw_parts(list.as_ptr().cast(), list.len()) }
 }
 
+#[inline]
 fn algorithm_numbers(list: &[AeadAlgorithm]) -> &[u16] {
     // Safety: AeadAlgorithm is transparent over u16, so the slice has the same place, length and life.
     unsafe { core::slice::from_raw_parts(list.as_ptr().cast(), list.len()) }
 }
 
+#[inline]
 fn pair_numbers(list: &[AlgorithmDescription]) -> &[u16] {
     // Safety: AlgorithmDescription is in C's layout, two u16 and no padding, so the slice has twice as many of them.
     unsafe { core::slice::from_raw_parts(list.as_ptr().cast(), 2 * list.len()) }
@@ -218,87 +213,80 @@ fn pair_numbers(list: &[AlgorithmDescription]) -> &[u16] {
 
 // ---- reading
 
-pub(crate) fn read_request(message: &[u8], limit: u16, table: &mut [u16], answer: &mut Answer) -> u32 {
-    // Safety: message, table and answer are slices, and the last two are borrowed alone.
-    unsafe {
-        ntske_read_request(
-            message.as_ptr(),
-            message.len(),
-            limit,
-            table.as_mut_ptr(),
-            table.len(),
-            answer.as_mut_ptr(),
-            answer.len(),
-        )
-    }
+#[inline]
+pub fn read_request(message: &[u8], limit: u16, table: &mut [u16], answer: &mut RequestCells) -> u64 {
+    // Safety: message and table are slices, answer an array; the last two are borrowed alone.
+    unsafe { ntske_read_request(message.as_ptr(), message.len(), limit, table.as_mut_ptr(), table.len(), answer) }
 }
 
-pub(crate) fn read_reply(message: &[u8], limit: u16, table: &mut [u16], answer: &mut Answer) -> u32 {
-    // Safety: message, table and answer are slices, and the last two are borrowed alone.
-    unsafe {
-        ntske_read_reply(
-            message.as_ptr(),
-            message.len(),
-            limit,
-            table.as_mut_ptr(),
-            table.len(),
-            answer.as_mut_ptr(),
-            answer.len(),
-        )
-    }
+#[inline]
+pub fn read_reply(message: &[u8], limit: u16, table: &mut [u16], answer: &mut ReplyCells) -> u64 {
+    // Safety: message and table are slices, answer an array; the last two are borrowed alone.
+    unsafe { ntske_read_reply(message.as_ptr(), message.len(), limit, table.as_mut_ptr(), table.len(), answer) }
 }
 
-pub(crate) fn read_record(message: &[u8], place: usize, answer: &mut Answer) -> u32 {
-    // Safety: message and answer are slices, and the last is borrowed alone.
-    unsafe { ntske_read_record(message.as_ptr(), message.len(), place, answer.as_mut_ptr(), answer.len()) }
+#[inline]
+pub fn read_record(message: &[u8], place: usize, answer: &mut ReadCells) -> u64 {
+    // Safety: message is a slice, and answer an array that is borrowed alone.
+    unsafe { ntske_read_record(message.as_ptr(), message.len(), place, answer) }
 }
 
-pub(crate) fn part(message: &[u8], start: usize, len: usize, answer: &mut [usize; 2]) -> u32 {
-    // Safety: message and answer are slices, and the last is borrowed alone.
-    unsafe { ntske_part(message.as_ptr(), message.len(), start, len, answer.as_mut_ptr(), answer.len()) }
-}
-
-pub(crate) fn entry(message: &[u8], table: &[u16], index: usize, answer: &mut [usize; 2]) -> u32 {
-    // Safety: message, table and answer are slices, and the last is borrowed alone.
-    unsafe {
-        ntske_entry(
-            message.as_ptr(),
-            message.len(),
-            table.as_ptr(),
-            table.len(),
-            index,
-            answer.as_mut_ptr(),
-            answer.len(),
-        )
-    }
-}
-
-pub(crate) fn number(message: &[u8], start: usize, len: usize, index: usize, answer: &mut [usize; 3]) -> u32 {
-    // Safety: message and answer are slices, and the last is borrowed alone.
-    unsafe { ntske_number(message.as_ptr(), message.len(), start, len, index, answer.as_mut_ptr(), answer.len()) }
-}
-
-pub(crate) fn pair(message: &[u8], start: usize, len: usize, index: usize, answer: &mut [usize; 3]) -> u32 {
-    // Safety: message and answer are slices, and the last is borrowed alone.
-    unsafe { ntske_pair(message.as_ptr(), message.len(), start, len, index, answer.as_mut_ptr(), answer.len()) }
-}
-
-pub(crate) fn is_utf8(bytes: &[u8]) -> u32 {
+#[inline]
+pub fn is_utf8(bytes: &[u8]) -> u64 {
     // Safety: bytes is a slice.
     unsafe { ntske_is_utf8(bytes.as_ptr(), bytes.len()) }
 }
 
+#[inline]
+pub fn list(message: &[u8], limit: u16, room: usize, out: &mut [u8], written: &mut Count) -> u64 {
+    // Safety: message and out are slices, written an array; the last two are borrowed alone.
+    unsafe { ntske_list(message.as_ptr(), message.len(), limit, room, out.as_mut_ptr(), out.len(), written) }
+}
+
+// ---- handing out
+
+#[inline]
+pub fn part(message: &[u8], start: usize, len: usize, answer: &mut [usize; 2]) -> u64 {
+    // Safety: message is a slice, and answer an array that is borrowed alone.
+    unsafe { ntske_part(message.as_ptr(), message.len(), start, len, answer) }
+}
+
+#[inline]
+pub fn entry(message: &[u8], table: &[u16], index: usize, answer: &mut [usize; 2]) -> u64 {
+    // Safety: message and table are slices, and answer an array that is borrowed alone.
+    unsafe { ntske_entry(message.as_ptr(), message.len(), table.as_ptr(), table.len(), index, answer) }
+}
+
+#[inline]
+pub fn number(message: &[u8], start: usize, len: usize, index: usize, answer: &mut [usize; 3]) -> u64 {
+    // Safety: message is a slice, and answer an array that is borrowed alone.
+    unsafe { ntske_number(message.as_ptr(), message.len(), start, len, index, answer) }
+}
+
+#[inline]
+pub fn pair(message: &[u8], start: usize, len: usize, index: usize, answer: &mut [usize; 3]) -> u64 {
+    // Safety: message is a slice, and answer an array that is borrowed alone.
+    unsafe { ntske_pair(message.as_ptr(), message.len(), start, len, index, answer) }
+}
+
+#[inline]
+pub fn version() -> u64 {
+    // Safety: nothing is lent.
+    unsafe { ntske_version() }
+}
+
 // ---- choosing
 
-pub(crate) fn choose(
+#[inline]
+pub fn choose(
     protocols: &[u8],
     algorithms: &[u8],
     own_protocols: &[NextProtocol],
     own_algorithms: &[AeadAlgorithm],
     answer: &mut [usize; 2],
-) -> u32 {
+) -> u64 {
     let (own_protocols, own_algorithms) = (protocol_numbers(own_protocols), algorithm_numbers(own_algorithms));
-    // Safety: the four lists and answer are slices, and the last is borrowed alone.
+    // Safety: the four lists are slices, and answer an array that is borrowed alone.
     unsafe {
         ntske_choose(
             protocols.as_ptr(),
@@ -309,115 +297,129 @@ pub(crate) fn choose(
             own_protocols.len(),
             own_algorithms.as_ptr(),
             own_algorithms.len(),
-            answer.as_mut_ptr(),
-            answer.len(),
+            answer,
         )
     }
 }
 
+#[inline]
+pub fn choose_protocol(protocols: &[u8], own_protocols: &[NextProtocol], answer: &mut Count) -> u64 {
+    let own = protocol_numbers(own_protocols);
+    // Safety: both lists are slices, and answer an array that is borrowed alone.
+    unsafe { ntske_choose_protocol(protocols.as_ptr(), protocols.len(), own.as_ptr(), own.len(), answer) }
+}
+
+#[inline]
+pub fn key_length(algorithm: u16, answer: &mut Count) -> u64 {
+    // Safety: answer is an array that is borrowed alone.
+    unsafe { ntske_key_length(algorithm, answer) }
+}
+
 // ---- the plan
 
-pub(crate) fn plan_new(protocol: u16, algorithm: u16, plan: &mut PlanCells) -> u32 {
-    // Safety: plan is a slice that is borrowed alone.
-    unsafe { ntske_plan_new(protocol, algorithm, plan.as_mut_ptr(), plan.len()) }
+#[inline]
+pub fn plan_new(protocol: u16, algorithm: u16, plan: &mut PlanCells) -> u64 {
+    // Safety: plan is an array that is borrowed alone.
+    unsafe { ntske_plan_new(protocol, algorithm, plan) }
 }
 
-pub(crate) fn plan_set_port(plan: &mut PlanCells, port: u16) -> u32 {
-    // Safety: plan is a slice that is borrowed alone.
-    unsafe { ntske_plan_set_port(plan.as_mut_ptr(), plan.len(), port) }
+#[inline]
+pub fn plan_set_port(plan: &mut PlanCells, port: u16) -> u64 {
+    // Safety: plan is an array that is borrowed alone.
+    unsafe { ntske_plan_set_port(plan, port) }
 }
 
-pub(crate) fn plan_clear_port(plan: &mut PlanCells) -> u32 {
-    // Safety: plan is a slice that is borrowed alone.
-    unsafe { ntske_plan_clear_port(plan.as_mut_ptr(), plan.len()) }
+#[inline]
+pub fn plan_clear_port(plan: &mut PlanCells) -> u64 {
+    // Safety: plan is an array that is borrowed alone.
+    unsafe { ntske_plan_clear_port(plan) }
 }
 
-pub(crate) fn plan_set_name_length(plan: &mut PlanCells, length: u16) -> u32 {
-    // Safety: plan is a slice that is borrowed alone.
-    unsafe { ntske_plan_set_name_length(plan.as_mut_ptr(), plan.len(), length) }
+#[inline]
+pub fn plan_set_name_length(plan: &mut PlanCells, length: u16) -> u64 {
+    // Safety: plan is an array that is borrowed alone.
+    unsafe { ntske_plan_set_name_length(plan, length) }
 }
 
-pub(crate) fn plan_clear_name_length(plan: &mut PlanCells) -> u32 {
-    // Safety: plan is a slice that is borrowed alone.
-    unsafe { ntske_plan_clear_name_length(plan.as_mut_ptr(), plan.len()) }
+#[inline]
+pub fn plan_clear_name_length(plan: &mut PlanCells) -> u64 {
+    // Safety: plan is an array that is borrowed alone.
+    unsafe { ntske_plan_clear_name_length(plan) }
 }
 
-pub(crate) fn plan_set_keep_alive(plan: &mut PlanCells) -> u32 {
-    // Safety: plan is a slice that is borrowed alone.
-    unsafe { ntske_plan_set_keep_alive(plan.as_mut_ptr(), plan.len()) }
+#[inline]
+pub fn plan_set_keep_alive(plan: &mut PlanCells) -> u64 {
+    // Safety: plan is an array that is borrowed alone.
+    unsafe { ntske_plan_set_keep_alive(plan) }
 }
 
-pub(crate) fn plan_clear_keep_alive(plan: &mut PlanCells) -> u32 {
-    // Safety: plan is a slice that is borrowed alone.
-    unsafe { ntske_plan_clear_keep_alive(plan.as_mut_ptr(), plan.len()) }
+#[inline]
+pub fn plan_clear_keep_alive(plan: &mut PlanCells) -> u64 {
+    // Safety: plan is an array that is borrowed alone.
+    unsafe { ntske_plan_clear_keep_alive(plan) }
 }
 
-pub(crate) fn plan_append(plan: &mut PlanCells, cookie: &[u8], tray: &mut [u8]) -> u32 {
-    // Safety: plan, cookie and tray are slices, and the first and last are borrowed alone.
-    unsafe {
-        ntske_plan_append(plan.as_mut_ptr(), plan.len(), cookie.as_ptr(), cookie.len(), tray.as_mut_ptr(), tray.len())
-    }
+#[inline]
+pub fn plan_append(plan: &mut PlanCells, cookie: &[u8], tray: &mut [u8]) -> u64 {
+    // Safety: plan is an array, cookie and tray are slices; the first and the last are borrowed alone.
+    unsafe { ntske_plan_append(plan, cookie.as_ptr(), cookie.len(), tray.as_mut_ptr(), tray.len()) }
 }
 
-pub(crate) fn plan_length(plan: &PlanCells, tray: &[u8], length: &mut [usize; 1]) -> u32 {
-    // Safety: plan, tray and length are slices, and the last is borrowed alone.
-    unsafe {
-        ntske_plan_length(plan.as_ptr(), plan.len(), tray.as_ptr(), tray.len(), length.as_mut_ptr(), length.len())
-    }
+#[inline]
+pub fn plan_length(plan: &PlanCells, tray: &[u8], length: &mut Count) -> u64 {
+    // Safety: plan and length are arrays, tray is a slice; length is borrowed alone.
+    unsafe { ntske_plan_length(plan, tray.as_ptr(), tray.len(), length) }
 }
 
 // ---- writing
 
-pub(crate) fn write_reply(
-    plan: &PlanCells,
-    tray: &[u8],
-    server: &[u8],
-    out: &mut [u8],
-    written: &mut [usize; 1],
-) -> u32 {
-    // Safety: plan, tray, server, out and written are slices, and the last two are borrowed alone.
+#[inline]
+pub fn write_reply(plan: &PlanCells, tray: &[u8], server: &[u8], out: &mut [u8], written: &mut Count) -> u64 {
+    // Safety: plan and written are arrays, tray, server and out are slices; the last two are borrowed alone.
     unsafe {
         ntske_write_reply(
-            plan.as_ptr(),
-            plan.len(),
+            plan,
             tray.as_ptr(),
             tray.len(),
             server.as_ptr(),
             server.len(),
             out.as_mut_ptr(),
             out.len(),
-            written.as_mut_ptr(),
-            written.len(),
+            written,
         )
     }
 }
 
-pub(crate) fn write_no_protocol(out: &mut [u8], written: &mut [usize; 1]) -> u32 {
-    // Safety: out and written are slices that are borrowed alone.
-    unsafe { ntske_write_no_protocol(out.as_mut_ptr(), out.len(), written.as_mut_ptr(), written.len()) }
+#[inline]
+pub fn write_no_protocol(out: &mut [u8], written: &mut Count) -> u64 {
+    // Safety: out is a slice and written an array; both are borrowed alone.
+    unsafe { ntske_write_no_protocol(out.as_mut_ptr(), out.len(), written) }
 }
 
-pub(crate) fn write_no_algorithm(protocol: u16, out: &mut [u8], written: &mut [usize; 1]) -> u32 {
-    // Safety: out and written are slices that are borrowed alone.
-    unsafe { ntske_write_no_algorithm(protocol, out.as_mut_ptr(), out.len(), written.as_mut_ptr(), written.len()) }
+#[inline]
+pub fn write_no_algorithm(protocol: u16, out: &mut [u8], written: &mut Count) -> u64 {
+    // Safety: out is a slice and written an array; both are borrowed alone.
+    unsafe { ntske_write_no_algorithm(protocol, out.as_mut_ptr(), out.len(), written) }
 }
 
-pub(crate) fn write_error(code: u16, out: &mut [u8], written: &mut [usize; 1]) -> u32 {
-    // Safety: out and written are slices that are borrowed alone.
-    unsafe { ntske_write_error(code, out.as_mut_ptr(), out.len(), written.as_mut_ptr(), written.len()) }
+#[inline]
+pub fn write_error(code: u16, out: &mut [u8], written: &mut Count) -> u64 {
+    // Safety: out is a slice and written an array; both are borrowed alone.
+    unsafe { ntske_write_error(code, out.as_mut_ptr(), out.len(), written) }
 }
 
-pub(crate) fn write_support(
+#[inline]
+pub fn write_support_reply(
     asked: u8,
     pairs: &[AlgorithmDescription],
     protocols: &[NextProtocol],
     out: &mut [u8],
-    written: &mut [usize; 1],
-) -> u32 {
+    written: &mut Count,
+) -> u64 {
     let (pairs, protocols) = (pair_numbers(pairs), protocol_numbers(protocols));
-    // Safety: pairs, protocols, out and written are slices, and the last two are borrowed alone.
+    // Safety: pairs, protocols and out are slices, written an array; the last two are borrowed alone.
     unsafe {
-        ntske_write_support(
+        ntske_write_support_reply(
             asked,
             pairs.as_ptr(),
             pairs.len(),
@@ -425,43 +427,42 @@ pub(crate) fn write_support(
             protocols.len(),
             out.as_mut_ptr(),
             out.len(),
-            written.as_mut_ptr(),
-            written.len(),
+            written,
         )
     }
 }
 
-pub(crate) fn support_length(
+#[inline]
+pub fn support_reply_length(
     asked: u8,
     pairs: &[AlgorithmDescription],
     protocols: &[NextProtocol],
-    length: &mut [usize; 1],
-) -> u32 {
+    length: &mut Count,
+) -> u64 {
     let (pairs, protocols) = (pair_numbers(pairs), protocol_numbers(protocols));
-    // Safety: pairs, protocols and length are slices, and the last is borrowed alone.
+    // Safety: pairs and protocols are slices, and length an array that is borrowed alone.
     unsafe {
-        ntske_support_length(
-            asked,
-            pairs.as_ptr(),
-            pairs.len(),
-            protocols.as_ptr(),
-            protocols.len(),
-            length.as_mut_ptr(),
-            length.len(),
-        )
+        ntske_support_reply_length(asked, pairs.as_ptr(), pairs.len(), protocols.as_ptr(), protocols.len(), length)
     }
 }
 
-pub(crate) fn write_request(
+#[inline]
+pub fn append_denied(name: &[u8], tray: &mut [u8], used: &mut Count) -> u64 {
+    // Safety: name and tray are slices, used an array; the last two are borrowed alone.
+    unsafe { ntske_append_denied(name.as_ptr(), name.len(), tray.as_mut_ptr(), tray.len(), used) }
+}
+
+#[inline]
+pub fn write_request(
     protocols: &[NextProtocol],
     algorithms: &[AeadAlgorithm],
     tray: &[u8],
     used: usize,
     out: &mut [u8],
-    written: &mut [usize; 1],
-) -> u32 {
+    written: &mut Count,
+) -> u64 {
     let (protocols, algorithms) = (protocol_numbers(protocols), algorithm_numbers(algorithms));
-    // Safety: protocols, algorithms, tray, out and written are slices, and the last two are borrowed alone.
+    // Safety: protocols, algorithms, tray and out are slices, written an array; the last two are borrowed alone.
     unsafe {
         ntske_write_request(
             protocols.as_ptr(),
@@ -473,21 +474,21 @@ pub(crate) fn write_request(
             used,
             out.as_mut_ptr(),
             out.len(),
-            written.as_mut_ptr(),
-            written.len(),
+            written,
         )
     }
 }
 
-pub(crate) fn request_length(
+#[inline]
+pub fn request_length(
     protocols: &[NextProtocol],
     algorithms: &[AeadAlgorithm],
     tray: &[u8],
     used: usize,
-    length: &mut [usize; 1],
-) -> u32 {
+    length: &mut Count,
+) -> u64 {
     let (protocols, algorithms) = (protocol_numbers(protocols), algorithm_numbers(algorithms));
-    // Safety: protocols, algorithms, tray and length are slices, and the last is borrowed alone.
+    // Safety: protocols, algorithms and tray are slices, and length an array that is borrowed alone.
     unsafe {
         ntske_request_length(
             protocols.as_ptr(),
@@ -497,31 +498,19 @@ pub(crate) fn request_length(
             tray.as_ptr(),
             tray.len(),
             used,
-            length.as_mut_ptr(),
-            length.len(),
+            length,
         )
     }
 }
 
-pub(crate) fn write_record(item: &RecordCells, source: &[u8], out: &mut [u8], written: &mut [usize; 1]) -> u32 {
-    // Safety: item, source, out and written are slices, and the last two are borrowed alone.
-    unsafe {
-        ntske_write_record(
-            item.as_ptr(),
-            item.len(),
-            source.as_ptr(),
-            source.len(),
-            out.as_mut_ptr(),
-            out.len(),
-            written.as_mut_ptr(),
-            written.len(),
-        )
-    }
+#[inline]
+pub fn write_record(item: &RecordCells, source: &[u8], out: &mut [u8], written: &mut Count) -> u64 {
+    // Safety: item and written are arrays, source and out are slices; the last two are borrowed alone.
+    unsafe { ntske_write_record(item, source.as_ptr(), source.len(), out.as_mut_ptr(), out.len(), written) }
 }
 
-pub(crate) fn record_length(item: &RecordCells, source: &[u8], length: &mut [usize; 1]) -> u32 {
-    // Safety: item, source and length are slices, and the last is borrowed alone.
-    unsafe {
-        ntske_record_length(item.as_ptr(), item.len(), source.as_ptr(), source.len(), length.as_mut_ptr(), length.len())
-    }
+#[inline]
+pub fn record_length(item: &RecordCells, source: &[u8], length: &mut Count) -> u64 {
+    // Safety: item and length are arrays, source is a slice; length is borrowed alone.
+    unsafe { ntske_record_length(item, source.as_ptr(), source.len(), length) }
 }

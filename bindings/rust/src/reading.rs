@@ -1,14 +1,22 @@
-//! Reading a request, a reply and one record, and choosing.
+//! Reading a request, a reply and one record, the listing, and choosing.
 
-use crate::views::part;
-use crate::{raw, AeadAlgorithm, Asked, Cookies, Denied, Key, List, Name, NextProtocol, Record, Refusal, Refused};
+use crate::refusal::{accepted, read};
+use crate::views::{hides, part, text};
+use crate::writing::{count, front};
+use crate::{
+    raw, AeadAlgorithm, Asked, Authentication, Cookies, Denied, Key, List, Name, NextProtocol, Record, Records,
+    Refusal, Refused,
+};
 
-/// A message as it came from the other side.
-#[derive(Clone, Copy, Debug, PartialEq, Eq)]
+/// A message as it came from the other side. `{:?}` shows only how long it is.
+#[derive(Clone, Copy)]
 pub struct Message<'m>(&'m [u8]);
+
+hides!(Message);
 
 /// A request.
 #[derive(Clone, Copy, Debug)]
+#[non_exhaustive]
 pub enum Request<'m, 't> {
     /// A key exchange.
     KeyExchange {
@@ -22,7 +30,7 @@ pub enum Request<'m, 't> {
     /// A request for cookies with keys that are given.
     FixedKey {
         /// By what the client is known.
-        authentication: Name<'m>,
+        authentication: Authentication<'m>,
         /// The key from client to server.
         c2s: Key<'m>,
         /// The key from server to client.
@@ -37,14 +45,20 @@ pub enum Request<'m, 't> {
     /// A question for what the server can do.
     Support {
         /// By what the client is known.
-        authentication: Name<'m>,
+        authentication: Authentication<'m>,
         /// What it asks.
         asked: Asked,
+    },
+    /// A sort that this package does not know: the archive is of another version.
+    Unknown {
+        /// The number of the sort.
+        sort: usize,
     },
 }
 
 /// A reply to a key-exchange request.
 #[derive(Clone, Copy, Debug)]
+#[non_exhaustive]
 pub struct Reply<'m, 't> {
     /// The protocol that was chosen.
     pub protocol: NextProtocol,
@@ -76,8 +90,12 @@ impl<'m> Message<'m> {
         part(self.0, start, len)
     }
 
-    /// Reads a request as if the message were cut after `limit` bytes. Two cells of the table are needed for each name that is denied.
-    /// A refusal, 1 to 7, leaves the table as it is.
+    /// Reads a request as if the message were cut after `limit` bytes, through its first end record; what follows is not
+    /// looked at. Two cells of the table are needed for each name that is denied. A refusal, 1 to 7, leaves the table as
+    /// it is.
+    ///
+    /// 1 does not say that more bytes would help, nor another number that they would not. So a host that takes a message
+    /// off a stream looks for its end record by the headers, as examples/host.rs does, and then has it read.
     ///
     /// The table cannot be lent again, nor the message be overwritten, while a name of it is in use:
     ///
@@ -91,10 +109,7 @@ impl<'m> Message<'m> {
     /// ```
     pub fn request<'t>(self, limit: u16, table: &'t mut [u16]) -> Result<Request<'m, 't>, Refusal> {
         let mut answer = [0; 10];
-        let number = raw::read_request(self.0, limit, table, &mut answer);
-        if number != 0 {
-            return Err(refusal(number, &answer));
-        }
+        read(raw::read_request(self.0, limit, table, &mut answer))?;
         let [sort, a, b, c, d, e, f, g, h, i] = answer;
         Ok(match sort {
             1 => Request::KeyExchange {
@@ -103,56 +118,69 @@ impl<'m> Message<'m> {
                 denied: Denied::new(self.0, table, e),
             },
             2 => Request::FixedKey {
-                authentication: self.name(a, b),
+                authentication: Authentication::of(self.part(a, b)),
                 c2s: Key::new(self.part(c, d)),
                 s2c: Key::new(self.part(e, f)),
                 algorithm: AeadAlgorithm(g as u16),
                 protocol: NextProtocol(h as u16),
                 keep_alive: i == 1,
             },
-            _ => Request::Support {
-                authentication: self.name(a, b),
+            3 => Request::Support {
+                authentication: Authentication::of(self.part(a, b)),
                 asked: Asked { protocols: c == 1, algorithms: d == 1, keep_alive: e == 1 },
             },
+            sort => Request::Unknown { sort },
         })
     }
 
     /// Reads a reply in the same way, with two cells of the table for each cookie. Refusals: 1 to 4, 7, 11 to 15.
     pub fn reply<'t>(self, limit: u16, table: &'t mut [u16]) -> Result<Reply<'m, 't>, Refusal> {
-        let mut answer = [0; 10];
-        let number = raw::read_reply(self.0, limit, table, &mut answer);
-        if number != 0 {
-            return Err(refusal(number, &answer));
-        }
-        let [protocol, algorithm, named, start, len, ported, port, keep_alive, cookies, _] = answer;
+        let mut answer = [0; 9];
+        read(raw::read_reply(self.0, limit, table, &mut answer))?;
+        let [protocol, algorithm, named, start, len, ported, port, keep_alive, cookies] = answer;
         Ok(Reply {
             protocol: NextProtocol(protocol as u16),
             algorithm: AeadAlgorithm(algorithm as u16),
-            server: (named == 1).then(|| self.name(start, len)),
+            server: (named == 1).then(|| Name::of(self.part(start, len))),
             port: (ported == 1).then_some(port as u16),
             keep_alive: keep_alive == 1,
             cookies: Cookies::new(self.0, table, cookies),
         })
     }
 
-    /// Reads the record at a place, and gives the place after it beside. Refusals: 1 and 2.
+    /// Reads the record at a place, and gives the place after it beside. Refusals: 1 and 2, at the place that was asked
+    /// for.
     pub fn record(self, place: usize) -> Result<(Record<'m>, usize), Refusal> {
-        let mut answer = [0; 10];
-        let number = raw::read_record(self.0, place, &mut answer);
-        if number != 0 {
-            return Err(refusal(number, &answer));
-        }
+        let mut answer = [0; 8];
+        accepted(raw::read_record(self.0, place, &mut answer)).map_err(|why| Refusal { why, place })?;
         Ok((Record::told(self, &answer), answer[7]))
     }
 
-    /// A part that the reader found to be a name.
-    pub(crate) fn name(self, start: usize, len: usize) -> Name<'m> {
-        Name::of(self.part(start, len))
+    /// The records of the message, one after the other, through the first end record or up to the first that does not
+    /// read whole.
+    ///
+    /// ```
+    /// # use ntske::{Message, Refusal, Refused};
+    /// let cut = [0x80, 1, 0, 2, 0, 0, 0x80, 4];
+    /// let mut records = Message::new(&cut).records();
+    /// let first = records.next().unwrap()?;
+    /// assert_eq!((first.place, first.kind, first.critical, first.size, first.body), (0, 1, true, 2, &[0, 0][..]));
+    /// assert_eq!(records.next().unwrap().unwrap_err(), Refusal { why: Refused::UnexpectedEof, place: 6 });
+    /// assert!(records.next().is_none());
+    /// # Ok::<(), Refusal>(())
+    /// ```
+    pub const fn records(self) -> Records<'m> {
+        Records::new(self)
     }
-}
 
-fn refusal(number: u32, answer: &raw::Answer) -> Refusal {
-    Refusal { why: Refused::told(number, answer[2] as u16), place: answer[0] }
+    /// Lists the records as text, a line each, and what [`Message::request`] answers with room for so many names, as the
+    /// program kelist prints it (with the limit 65,535 and room for 1,024). The text is put at the front of `out`;
+    /// [`LISTING`](crate::LISTING) bytes are enough for every message. Refusals: 10.
+    pub fn list(self, limit: u16, room: usize, out: &mut [u8]) -> Result<&str, Refused> {
+        let mut written = [0];
+        let word = raw::list(self.0, limit, room, out, &mut written);
+        front(count(word, written), out).map(|listing| text(listing))
+    }
 }
 
 /// What the server takes of a client's lists.
@@ -164,7 +192,8 @@ pub struct Chosen {
     pub algorithm: AeadAlgorithm,
 }
 
-/// Chooses of the client's lists the first number that the server's own list holds. Refusals: 9 for a client's list of an odd length, 13, 14.
+/// Chooses of the client's lists the first number that the server's own list holds. Refusals: 9 for a client's list of
+/// an odd length, 13, 14.
 ///
 /// Lists cannot change places:
 ///
@@ -181,9 +210,19 @@ pub fn choose(
     own_algorithms: &[AeadAlgorithm],
 ) -> Result<Chosen, Refused> {
     let mut answer = [0; 2];
-    let number = raw::choose(protocols.bytes(), algorithms.bytes(), own_protocols, own_algorithms, &mut answer);
-    Refused::unless_zero(number)?;
+    accepted(raw::choose(protocols.bytes(), algorithms.bytes(), own_protocols, own_algorithms, &mut answer))?;
     Ok(Chosen { protocol: NextProtocol(answer[0] as u16), algorithm: AeadAlgorithm(answer[1] as u16) })
+}
+
+/// Chooses the protocol alone, which the reply to 14 names: see [`write_no_algorithm`](crate::write_no_algorithm).
+/// Refusals: 9 for a list of an odd length, 13.
+pub fn choose_protocol(
+    protocols: List<'_, NextProtocol>,
+    own_protocols: &[NextProtocol],
+) -> Result<NextProtocol, Refused> {
+    let mut answer = [0];
+    accepted(raw::choose_protocol(protocols.bytes(), own_protocols, &mut answer))?;
+    Ok(NextProtocol(answer[0] as u16))
 }
 
 /// Whether bytes are UTF-8 (RFC 3629).

@@ -1,13 +1,18 @@
-//! One record.
+//! One record, and the records of a message.
 
+use crate::views::Hidden;
 use crate::writing::{count, front};
 use crate::{
-    raw, AeadAlgorithm, AlgorithmDescription, Cookie, ErrorCode, Keys, List, Message, Name, NextProtocol, Refused,
-    WarningCode,
+    raw, AeadAlgorithm, AlgorithmDescription, Authentication, Cookie, ErrorCode, Keys, List, Message, Name,
+    NextProtocol, Refusal, Refused, WarningCode,
 };
+use core::fmt;
+use core::iter::FusedIterator;
 
-/// A record, with its parts of the message that it was read from or is made from.
-#[derive(Clone, Copy, Debug, PartialEq, Eq)]
+/// A record, with its parts of the message that it was read from or is made from. `{:?}` shows of keys, a cookie, an
+/// authentication and an unknown body only how long they are.
+#[derive(Clone, Copy)]
+#[non_exhaustive]
 pub enum Record<'m> {
     /// 0: the end of the message.
     EndOfMessage,
@@ -36,7 +41,7 @@ pub enum Record<'m> {
     /// 13: a server that the client does not want.
     NtpServerDeny(Name<'m>),
     /// 14: by what the client is known.
-    Authentication(Name<'m>),
+    Authentication(Authentication<'m>),
     /// Any other.
     Unknown {
         /// Its number: 11, or 15 to 32,767.
@@ -50,10 +55,9 @@ pub enum Record<'m> {
 
 impl<'m> Record<'m> {
     /// The record that a reader's answer tells.
-    pub(crate) fn told(message: Message<'m>, answer: &raw::Answer) -> Self {
+    pub(crate) fn told(message: Message<'m>, answer: &raw::ReadCells) -> Self {
         let [kind, bit, number, start, len, second_start, second_len, ..] = *answer;
         let number = number as u16;
-        let name = || message.name(start, len);
         let body = || message.part(start, len);
         match kind as u16 {
             0 => Record::EndOfMessage,
@@ -62,7 +66,7 @@ impl<'m> Record<'m> {
             3 => Record::Warning(WarningCode(number)),
             4 => Record::AeadAlgorithm(List::new(body())),
             5 => Record::NewCookie(Cookie::new(body())),
-            6 => Record::Server(name()),
+            6 => Record::Server(Name::of(body())),
             7 => Record::Port(number),
             8 => Record::KeepAlive,
             9 => Record::SupportedNextProtocolList(List::new(body())),
@@ -71,13 +75,14 @@ impl<'m> Record<'m> {
                 debug_assert_eq!(start + len, second_start);
                 Record::FixedKeyRequest(Keys::new(message.part(start, len + second_len)))
             }
-            13 => Record::NtpServerDeny(name()),
-            14 => Record::Authentication(name()),
+            13 => Record::NtpServerDeny(Name::of(body())),
+            14 => Record::Authentication(Authentication::of(body())),
             kind => Record::Unknown { kind, critical: bit == 1, data: body() },
         }
     }
 
-    /// The cells that tell the record, and the bytes that its parts lie in. An unknown record is none that is numbered like a known one.
+    /// The cells that tell the record, and the bytes that its parts lie in. An unknown record is none that is numbered
+    /// like a known one.
     fn cells(self) -> Result<(raw::RecordCells, &'m [u8]), Refused> {
         let bare = |kind| Ok(([kind, 0, 0, 0, 0, 0, 0], &[][..]));
         let numbered = |kind, number: u16| Ok(([kind, 0, usize::from(number), 0, 0, 0, 0], &[][..]));
@@ -99,7 +104,7 @@ impl<'m> Record<'m> {
                 Ok(([12, 0, 0, 0, c2s, c2s, s2c], keys.bytes()))
             }
             Record::NtpServerDeny(name) => bodied(13, name.bytes()),
-            Record::Authentication(name) => bodied(14, name.bytes()),
+            Record::Authentication(authentication) => bodied(14, authentication.bytes()),
             Record::Unknown { kind: 0..=10 | 12..=14, .. } => Err(Refused::InvalidValue),
             Record::Unknown { kind, critical, data } => {
                 Ok(([usize::from(kind), usize::from(critical), 0, 0, data.len(), 0, 0], data))
@@ -107,20 +112,113 @@ impl<'m> Record<'m> {
         }
     }
 
-    /// Writes the record to the front of `out` and gives that part of it. Refusals: 9 for a list whose length is wrong, keys of unequal
-    /// length and an unknown record numbered like a known one or above 32,767; then 8; then 10.
+    /// Writes the record to the front of `out` and gives that part of it. Refusals: 9 for a list whose length is wrong,
+    /// keys of unequal length and an unknown record numbered like a known one or above 32,767; then 8; then 10.
     pub fn write<'o>(&self, out: &'o mut [u8]) -> Result<&'o mut [u8], Refused> {
         let (cells, source) = self.cells()?;
         let mut written = [0];
-        let number = raw::write_record(&cells, source, out, &mut written);
-        front(count(number, written), out)
+        let word = raw::write_record(&cells, source, out, &mut written);
+        front(count(word, written), out)
     }
 
     /// How long the record is when it is written. Refusals: 9 and 8.
     pub fn length(&self) -> Result<usize, Refused> {
         let (cells, source) = self.cells()?;
         let mut length = [0];
-        let number = raw::record_length(&cells, source, &mut length);
-        count(number, length)
+        let word = raw::record_length(&cells, source, &mut length);
+        count(word, length)
     }
 }
+
+impl fmt::Debug for Record<'_> {
+    fn fmt(&self, f: &mut fmt::Formatter<'_>) -> fmt::Result {
+        let (kind, held): (_, &dyn fmt::Debug) = match self {
+            Record::EndOfMessage => return f.write_str("EndOfMessage"),
+            Record::KeepAlive => return f.write_str("KeepAlive"),
+            Record::Unknown { kind, critical, data } => {
+                let mut unknown = f.debug_struct("Unknown");
+                return unknown.field("kind", kind).field("critical", critical).field("data", &Hidden(data)).finish();
+            }
+            Record::NextProtocol(list) => ("NextProtocol", list),
+            Record::Error(code) => ("Error", code),
+            Record::Warning(code) => ("Warning", code),
+            Record::AeadAlgorithm(list) => ("AeadAlgorithm", list),
+            Record::NewCookie(cookie) => ("NewCookie", cookie),
+            Record::Server(name) => ("Server", name),
+            Record::Port(port) => ("Port", port),
+            Record::SupportedNextProtocolList(list) => ("SupportedNextProtocolList", list),
+            Record::SupportedAlgorithmList(list) => ("SupportedAlgorithmList", list),
+            Record::FixedKeyRequest(keys) => ("FixedKeyRequest", keys),
+            Record::NtpServerDeny(name) => ("NtpServerDeny", name),
+            Record::Authentication(authentication) => ("Authentication", authentication),
+        };
+        f.debug_tuple(kind).field(held).finish()
+    }
+}
+
+/// A record of a message with its place and its header.
+#[derive(Clone, Copy)]
+#[non_exhaustive]
+pub struct Placed<'m> {
+    /// The place of its first byte in the message.
+    pub place: usize,
+    /// Its kind.
+    pub kind: u16,
+    /// Its critical bit, of every kind.
+    pub critical: bool,
+    /// The size of its body.
+    pub size: u16,
+    /// The bytes of its body.
+    pub body: &'m [u8],
+    /// What it is.
+    pub record: Record<'m>,
+}
+
+impl<'m> Placed<'m> {
+    /// The record at a place, and the place after it. A record that reads whole has a header of four bytes: bit and
+    /// kind, and the body's size.
+    fn at(message: Message<'m>, place: usize) -> Result<(Self, usize), Refusal> {
+        let (record, next) = message.record(place)?;
+        let (header, body) = message.bytes()[place..next].split_at(4);
+        let word = u16::from_be_bytes([header[0], header[1]]);
+        let (kind, critical, size) = (word & 0x7FFF, word > 0x7FFF, u16::from_be_bytes([header[2], header[3]]));
+        Ok((Placed { place, kind, critical, size, body, record }, next))
+    }
+}
+
+impl fmt::Debug for Placed<'_> {
+    fn fmt(&self, f: &mut fmt::Formatter<'_>) -> fmt::Result {
+        f.debug_struct("Placed")
+            .field("place", &self.place)
+            .field("kind", &self.kind)
+            .field("critical", &self.critical)
+            .field("size", &self.size)
+            .field("record", &self.record)
+            .finish_non_exhaustive()
+    }
+}
+
+/// The records of a message, one after the other: see [`Message::records`].
+#[derive(Clone, Debug)]
+pub struct Records<'m> {
+    message: Message<'m>,
+    next: Option<usize>,
+}
+
+impl<'m> Records<'m> {
+    pub(crate) const fn new(message: Message<'m>) -> Self {
+        Records { message, next: Some(0) }
+    }
+}
+
+impl<'m> Iterator for Records<'m> {
+    type Item = Result<Placed<'m>, Refusal>;
+
+    fn next(&mut self) -> Option<Self::Item> {
+        let read = Placed::at(self.message, self.next.take()?);
+        self.next = read.as_ref().ok().filter(|(item, _)| item.kind != 0).map(|(_, next)| *next);
+        Some(read.map(|(item, _)| item))
+    }
+}
+
+impl FusedIterator for Records<'_> {}

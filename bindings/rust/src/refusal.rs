@@ -5,6 +5,7 @@ use core::fmt;
 
 /// Why a call refuses.
 #[derive(Clone, Copy, Debug, PartialEq, Eq, Hash)]
+#[non_exhaustive]
 pub enum Refused {
     /// 1: bytes are missing.
     UnexpectedEof,
@@ -14,7 +15,7 @@ pub enum Refused {
     UnrecognizedCriticalRecord,
     /// 4: the set of records is not allowed.
     Invalid,
-    /// 5: a fixed key's algorithm is not 15 or 17.
+    /// 5: the algorithm is not 15 or 17.
     AeadNotSupported(AeadAlgorithm),
     /// 6: a key half has the wrong length.
     IncorrectSizedKey,
@@ -36,11 +37,18 @@ pub enum Refused {
     NoOverlappingAlgorithm,
     /// 15: there is no cookie.
     NoCookie,
+    /// A number that this package does not know: the archive is of another version.
+    Unknown {
+        /// The refusal's number.
+        number: u16,
+        /// What is beside it.
+        beside: u16,
+    },
 }
 
 impl Refused {
-    /// The refusal's number, 1 to 15.
-    pub const fn number(self) -> u32 {
+    /// The refusal's number: 1 to 15, or one that is not known.
+    pub const fn number(self) -> u16 {
         match self {
             Refused::UnexpectedEof => 1,
             Refused::InvalidData => 2,
@@ -57,71 +65,91 @@ impl Refused {
             Refused::NoOverlappingProtocol => 13,
             Refused::NoOverlappingAlgorithm => 14,
             Refused::NoCookie => 15,
+            Refused::Unknown { number, .. } => number,
         }
     }
 
-    /// What comes beside the number: the algorithm of 5, and the code of 11 and 12.
-    pub const fn code(self) -> Option<u16> {
+    /// The number beside it: the algorithm of 5, the code of 11 and 12, and what is there of one that is not known.
+    pub const fn beside(self) -> Option<u16> {
         match self {
             Refused::AeadNotSupported(algorithm) => Some(algorithm.0),
             Refused::Error(code) => Some(code.0),
             Refused::UnknownWarning(code) => Some(code.0),
+            Refused::Unknown { beside, .. } => Some(beside),
             _ => None,
         }
     }
 
-    /// The refusal that a number tells, with the code beside it.
-    pub(crate) fn told(number: u32, code: u16) -> Self {
+    /// In words, without the number beside it.
+    pub const fn words(self) -> &'static str {
+        match self {
+            Refused::UnexpectedEof => "bytes are missing",
+            Refused::InvalidData => "a body is ill-formed",
+            Refused::UnrecognizedCriticalRecord => "an unknown record has its critical bit set",
+            Refused::Invalid => "the set of records is not allowed",
+            Refused::AeadNotSupported(_) => "the algorithm is not 15 or 17",
+            Refused::IncorrectSizedKey => "a key half has the wrong length",
+            Refused::TableFull => "more names or cookies than the table or the plan holds",
+            Refused::InvalidInput => "a body to write is longer than 65,535 bytes",
+            Refused::InvalidValue => "the value is no record, plan or tray",
+            Refused::OutputTooShort => "the output is too short",
+            Refused::Error(_) => "the reply has an error record",
+            Refused::UnknownWarning(_) => "the reply has a warning record",
+            Refused::NoOverlappingProtocol => "no protocol in common",
+            Refused::NoOverlappingAlgorithm => "no algorithm in common",
+            Refused::NoCookie => "no cookie",
+            Refused::Unknown { .. } => "a refusal that this package does not know",
+        }
+    }
+
+    /// The code of the error record with which a server answers a request that was refused so: 0 for 3; 1 for what is
+    /// the client's fault (1, 2, 4, 5, 6); 2 for what is the server's own (7, since its table is too small, and any
+    /// other). The replies to 13 and 14 are no errors: they are those of
+    /// [`write_no_protocol`](crate::write_no_protocol) and [`write_no_algorithm`](crate::write_no_algorithm).
+    pub const fn error_code(self) -> ErrorCode {
+        match self {
+            Refused::UnrecognizedCriticalRecord => ErrorCode::UNRECOGNIZED_CRITICAL_RECORD,
+            Refused::UnexpectedEof
+            | Refused::InvalidData
+            | Refused::Invalid
+            | Refused::AeadNotSupported(_)
+            | Refused::IncorrectSizedKey => ErrorCode::BAD_REQUEST,
+            _ => ErrorCode::INTERNAL_SERVER_ERROR,
+        }
+    }
+
+    /// The refusal that a number tells, with what is beside it.
+    const fn told(number: u16, beside: u16) -> Self {
         match number {
             1 => Refused::UnexpectedEof,
             2 => Refused::InvalidData,
             3 => Refused::UnrecognizedCriticalRecord,
             4 => Refused::Invalid,
-            5 => Refused::AeadNotSupported(AeadAlgorithm(code)),
+            5 => Refused::AeadNotSupported(AeadAlgorithm(beside)),
             6 => Refused::IncorrectSizedKey,
             7 => Refused::TableFull,
             8 => Refused::InvalidInput,
             9 => Refused::InvalidValue,
             10 => Refused::OutputTooShort,
-            11 => Refused::Error(ErrorCode(code)),
-            12 => Refused::UnknownWarning(WarningCode(code)),
+            11 => Refused::Error(ErrorCode(beside)),
+            12 => Refused::UnknownWarning(WarningCode(beside)),
             13 => Refused::NoOverlappingProtocol,
             14 => Refused::NoOverlappingAlgorithm,
             15 => Refused::NoCookie,
-            other => panic!("libntske.a refuses with {other}, which its contracts shut out"),
-        }
-    }
-
-    /// What a call without a code answers.
-    pub(crate) fn unless_zero(number: u32) -> Result<(), Self> {
-        if number == 0 {
-            Ok(())
-        } else {
-            Err(Self::told(number, 0))
+            number => Refused::Unknown { number, beside },
         }
     }
 }
 
 impl fmt::Display for Refused {
     fn fmt(&self, f: &mut fmt::Formatter<'_>) -> fmt::Result {
-        match self {
-            Refused::UnexpectedEof => f.write_str("bytes are missing"),
-            Refused::InvalidData => f.write_str("a body is ill-formed"),
-            Refused::UnrecognizedCriticalRecord => f.write_str("an unknown record has its critical bit set"),
-            Refused::Invalid => f.write_str("the set of records is not allowed"),
-            Refused::AeadNotSupported(algorithm) => {
-                write!(f, "a fixed key's algorithm is not 15 or 17, code {}", algorithm.0)
-            }
-            Refused::IncorrectSizedKey => f.write_str("a key half has the wrong length"),
-            Refused::TableFull => f.write_str("more names or cookies than the table or the plan holds"),
-            Refused::InvalidInput => f.write_str("a body to write is longer than 65,535 bytes"),
-            Refused::InvalidValue => f.write_str("the value is no record, plan or tray"),
-            Refused::OutputTooShort => f.write_str("the output is too short"),
-            Refused::Error(code) => write!(f, "the reply has an error record, code {}", code.0),
-            Refused::UnknownWarning(code) => write!(f, "the reply has a warning record, code {}", code.0),
-            Refused::NoOverlappingProtocol => f.write_str("no protocol in common"),
-            Refused::NoOverlappingAlgorithm => f.write_str("no algorithm in common"),
-            Refused::NoCookie => f.write_str("no cookie"),
+        f.write_str(self.words())?;
+        if let Refused::Unknown { number, .. } = self {
+            write!(f, ", number {number}")?;
+        }
+        match self.beside() {
+            Some(code) => write!(f, ", code {code}"),
+            None => Ok(()),
         }
     }
 }
@@ -133,8 +161,28 @@ impl core::error::Error for Refused {}
 pub struct Refusal {
     /// Why.
     pub why: Refused,
-    /// The place of the record's first byte in the message.
+    /// The place of the record's first byte in the message. It is the end record where the refusal is decided after the
+    /// end.
     pub place: usize,
+}
+
+impl Refusal {
+    /// Takes the word apart that a call of the archive returns: bits 0 to 15 are the refusal's number, 16 to 31 the
+    /// number beside it, and 32 to 63 the place. Nothing where the word is 0, which is what a call returns that is
+    /// accepted.
+    ///
+    /// ```
+    /// # use ntske::{ErrorCode, Refusal, Refused};
+    /// let refusal = Refusal { why: Refused::Error(ErrorCode(2)), place: 6 };
+    /// assert_eq!(Refusal::from_word(0x0000_0006_0002_000B), Some(refusal));
+    /// assert_eq!(Refusal::from_word(0), None);
+    /// ```
+    pub const fn from_word(word: u64) -> Option<Self> {
+        if word == 0 {
+            return None;
+        }
+        Some(Refusal { why: Refused::told(word as u16, (word >> 16) as u16), place: (word >> 32) as usize })
+    }
 }
 
 impl fmt::Display for Refusal {
@@ -144,3 +192,13 @@ impl fmt::Display for Refusal {
 }
 
 impl core::error::Error for Refusal {}
+
+/// What a reader answers by its word.
+pub(crate) fn read(word: u64) -> Result<(), Refusal> {
+    Refusal::from_word(word).map_or(Ok(()), Err)
+}
+
+/// What a call answers by its word that tells no place.
+pub(crate) fn accepted(word: u64) -> Result<(), Refused> {
+    read(word).map_err(|refusal| refusal.why)
+}

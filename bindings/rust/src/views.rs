@@ -1,7 +1,12 @@
-//! Parts of a message under the types of what they hold. A part borrows its message, and what stands in a table borrows message and table.
+//! Parts of a message under the types of what they hold. A part borrows its message, and what stands in a table borrows
+//! message and table.
+//!
+//! `{:?}` shows of what is secret, a key, a cookie or an authentication, only how long it is, and two of them cannot be
+//! compared with `==`, which would take a time that tells how much of them is the same.
 
 use crate::{raw, AeadAlgorithm, AlgorithmDescription, NextProtocol};
 use core::fmt;
+use core::iter::FusedIterator;
 use core::marker::PhantomData;
 
 mod sealed {
@@ -18,6 +23,27 @@ pub(crate) fn part(message: &[u8], start: usize, len: usize) -> &[u8] {
 fn inside(message: &[u8], [start, len]: [usize; 2]) -> &[u8] {
     &message[start..][..len]
 }
+
+/// Bytes that `{:?}` shows only the number of.
+pub(crate) struct Hidden<'b>(pub &'b [u8]);
+
+impl fmt::Debug for Hidden<'_> {
+    fn fmt(&self, f: &mut fmt::Formatter<'_>) -> fmt::Result {
+        write!(f, "{} bytes", self.0.len())
+    }
+}
+
+/// `{:?}` of a type over bytes shows only how many there are.
+macro_rules! hides {
+    ($($Type:ident)*) => {
+        $(impl core::fmt::Debug for $Type<'_> {
+            fn fmt(&self, f: &mut core::fmt::Formatter<'_>) -> core::fmt::Result {
+                write!(f, concat!(stringify!($Type), "({:?})"), crate::views::Hidden(self.0))
+            }
+        })*
+    };
+}
+pub(crate) use hides;
 
 /// What a [`List`] holds: protocols, algorithms, or algorithms with their key sizes.
 pub trait Listed: Copy + sealed::Sealed {
@@ -114,7 +140,7 @@ impl<T: Listed + fmt::Debug> fmt::Debug for List<'_, T> {
     }
 }
 
-/// The numbers of a [`List`], one after the other.
+/// The numbers or pairs of a [`List`], one after the other.
 #[derive(Clone)]
 pub struct Numbers<'m, T> {
     list: List<'m, T>,
@@ -123,10 +149,25 @@ pub struct Numbers<'m, T> {
 
 impl<T: Listed> Iterator for Numbers<'_, T> {
     type Item = T;
+
     fn next(&mut self) -> Option<T> {
         let number = self.list.get(self.next)?;
         self.next += 1;
         Some(number)
+    }
+
+    fn size_hint(&self) -> (usize, Option<usize>) {
+        let left = self.list.len() - self.next;
+        (left, Some(left))
+    }
+}
+
+impl<T: Listed> ExactSizeIterator for Numbers<'_, T> {}
+impl<T: Listed> FusedIterator for Numbers<'_, T> {}
+
+impl<T: Listed + fmt::Debug> fmt::Debug for Numbers<'_, T> {
+    fn fmt(&self, f: &mut fmt::Formatter<'_>) -> fmt::Result {
+        f.debug_list().entries(self.clone()).finish()
     }
 }
 
@@ -157,7 +198,7 @@ impl<'m> Name<'m> {
 
     /// Its text. The standard library goes over the bytes again.
     pub fn as_str(self) -> &'m str {
-        core::str::from_utf8(self.0).expect("a name is UTF-8")
+        text(self.0)
     }
 }
 
@@ -173,8 +214,39 @@ impl fmt::Display for Name<'_> {
     }
 }
 
+/// The text of bytes that the library found or wrote as UTF-8.
+pub(crate) fn text(bytes: &[u8]) -> &str {
+    core::str::from_utf8(bytes).expect("libntske.a takes this for UTF-8")
+}
+
+/// By what a client is known to the server: UTF-8, and a secret of the two.
+#[derive(Clone, Copy)]
+pub struct Authentication<'m>(&'m [u8]);
+
+impl<'m> Authentication<'m> {
+    /// The authentication that a text is.
+    pub const fn new(text: &'m str) -> Self {
+        Authentication(text.as_bytes())
+    }
+
+    /// A part that a reader found to be one.
+    pub(crate) const fn of(part: &'m [u8]) -> Self {
+        Authentication(part)
+    }
+
+    /// Its bytes.
+    pub const fn bytes(self) -> &'m [u8] {
+        self.0
+    }
+
+    /// Its text. The standard library goes over the bytes again.
+    pub fn as_str(self) -> &'m str {
+        text(self.0)
+    }
+}
+
 /// A cookie in a message.
-#[derive(Clone, Copy, PartialEq, Eq, Hash)]
+#[derive(Clone, Copy)]
 pub struct Cookie<'m>(&'m [u8]);
 
 impl<'m> Cookie<'m> {
@@ -189,14 +261,14 @@ impl<'m> Cookie<'m> {
     }
 }
 
-impl fmt::Debug for Cookie<'_> {
-    fn fmt(&self, f: &mut fmt::Formatter<'_>) -> fmt::Result {
-        write!(f, "Cookie({} bytes)", self.0.len())
-    }
-}
-
-/// A key in a message. It is not shown by `{:?}`.
-#[derive(Clone, Copy, PartialEq, Eq)]
+/// A key in a message. It cannot be compared with another:
+///
+/// ```compile_fail,E0369
+/// # fn host(one: ntske::Key<'_>, other: ntske::Key<'_>) -> bool {
+/// one == other
+/// # }
+/// ```
+#[derive(Clone, Copy)]
 pub struct Key<'m>(&'m [u8]);
 
 impl<'m> Key<'m> {
@@ -210,14 +282,8 @@ impl<'m> Key<'m> {
     }
 }
 
-impl fmt::Debug for Key<'_> {
-    fn fmt(&self, f: &mut fmt::Formatter<'_>) -> fmt::Result {
-        write!(f, "Key({} bytes)", self.0.len())
-    }
-}
-
 /// The two keys of a record, one behind the other: from client to server, then from server to client.
-#[derive(Clone, Copy, PartialEq, Eq)]
+#[derive(Clone, Copy)]
 pub struct Keys<'m>(&'m [u8]);
 
 impl<'m> Keys<'m> {
@@ -242,11 +308,7 @@ impl<'m> Keys<'m> {
     }
 }
 
-impl fmt::Debug for Keys<'_> {
-    fn fmt(&self, f: &mut fmt::Formatter<'_>) -> fmt::Result {
-        write!(f, "Keys({} bytes)", self.0.len())
-    }
-}
+hides!(Authentication Cookie Key Keys);
 
 /// What a reader found and noted in the table that was lent to it: both stay borrowed.
 #[derive(Clone, Copy)]
@@ -315,7 +377,7 @@ macro_rules! entries {
         }
 
         $(#[$each])*
-        #[derive(Clone, Debug)]
+        #[derive(Clone)]
         pub struct $Each<'m, 't> {
             entries: $Entries<'m, 't>,
             next: usize,
@@ -323,10 +385,25 @@ macro_rules! entries {
 
         impl<'m> Iterator for $Each<'m, '_> {
             type Item = $Entry<'m>;
+
             fn next(&mut self) -> Option<$Entry<'m>> {
                 let entry = self.entries.get(self.next)?;
                 self.next += 1;
                 Some(entry)
+            }
+
+            fn size_hint(&self) -> (usize, Option<usize>) {
+                let left = self.entries.len() - self.next;
+                (left, Some(left))
+            }
+        }
+
+        impl ExactSizeIterator for $Each<'_, '_> {}
+        impl FusedIterator for $Each<'_, '_> {}
+
+        impl fmt::Debug for $Each<'_, '_> {
+            fn fmt(&self, f: &mut fmt::Formatter<'_>) -> fmt::Result {
+                f.debug_list().entries(self.clone()).finish()
             }
         }
     };

@@ -1,5 +1,6 @@
 //! The writers of whole messages, and their lengths.
 
+use crate::refusal::accepted;
 use crate::{raw, AeadAlgorithm, AlgorithmDescription, ErrorCode, Name, NextProtocol, Refused};
 use core::fmt;
 
@@ -23,13 +24,13 @@ impl Asked {
 /// The names that a request denies, in a buffer.
 pub struct Names<'b> {
     tray: &'b mut [u8],
-    used: usize,
+    used: raw::Count,
 }
 
 impl<'b> Names<'b> {
     /// No names, over a buffer that the next are put into; what that holds does not matter.
     pub fn new(buffer: &'b mut [u8]) -> Self {
-        Names { tray: buffer, used: 0 }
+        Names { tray: buffer, used: [0] }
     }
 
     /// How many bytes of the buffer a name takes.
@@ -38,66 +39,60 @@ impl<'b> Names<'b> {
     }
 
     /// One name more. Refusals: 8; 10 where the buffer has no room.
-    pub fn push(&mut self, name: Name<'_>) -> Result<&mut Self, Refused> {
-        let name = name.bytes();
-        let length = u16::try_from(name.len()).map_err(|_| Refused::InvalidInput)?;
-        let field = self.tray[self.used..].get_mut(..Self::field(name.len())).ok_or(Refused::OutputTooShort)?;
-        field[0] = 2;
-        field[1..3].copy_from_slice(&length.to_be_bytes());
-        field[3..].copy_from_slice(name);
-        self.used += Self::field(name.len());
+    pub fn append(&mut self, name: Name<'_>) -> Result<&mut Self, Refused> {
+        accepted(raw::append_denied(name.bytes(), self.tray, &mut self.used))?;
         Ok(self)
     }
 }
 
 impl fmt::Debug for Names<'_> {
     fn fmt(&self, f: &mut fmt::Formatter<'_>) -> fmt::Result {
-        write!(f, "Names({} bytes used)", self.used)
+        write!(f, "Names({} bytes used)", self.used[0])
     }
 }
 
 /// Writes the reply that no protocol is agreed on. Refusals: 10.
 pub fn write_no_protocol(out: &mut [u8]) -> Result<&mut [u8], Refused> {
     let mut written = [0];
-    let number = raw::write_no_protocol(out, &mut written);
-    front(count(number, written), out)
+    let word = raw::write_no_protocol(out, &mut written);
+    front(count(word, written), out)
 }
 
 /// Writes the reply that no algorithm is agreed on. Refusals: 10.
 pub fn write_no_algorithm(protocol: NextProtocol, out: &mut [u8]) -> Result<&mut [u8], Refused> {
     let mut written = [0];
-    let number = raw::write_no_algorithm(protocol.0, out, &mut written);
-    front(count(number, written), out)
+    let word = raw::write_no_algorithm(protocol.0, out, &mut written);
+    front(count(word, written), out)
 }
 
 /// Writes the reply that tells an error. Refusals: 10.
 pub fn write_error(code: ErrorCode, out: &mut [u8]) -> Result<&mut [u8], Refused> {
     let mut written = [0];
-    let number = raw::write_error(code.0, out, &mut written);
-    front(count(number, written), out)
+    let word = raw::write_error(code.0, out, &mut written);
+    front(count(word, written), out)
 }
 
 /// Writes a support reply with what is asked. Refusals: 8 for a list that is to be written; then 10.
-pub fn write_support<'o>(
+pub fn write_support_reply<'o>(
     asked: Asked,
     pairs: &[AlgorithmDescription],
     protocols: &[NextProtocol],
     out: &'o mut [u8],
 ) -> Result<&'o mut [u8], Refused> {
     let mut written = [0];
-    let number = raw::write_support(asked.number(), pairs, protocols, out, &mut written);
-    front(count(number, written), out)
+    let word = raw::write_support_reply(asked.number(), pairs, protocols, out, &mut written);
+    front(count(word, written), out)
 }
 
 /// The length of that reply. Refusals: 8.
-pub fn support_length(
+pub fn support_reply_length(
     asked: Asked,
     pairs: &[AlgorithmDescription],
     protocols: &[NextProtocol],
 ) -> Result<usize, Refused> {
     let mut length = [0];
-    let number = raw::support_length(asked.number(), pairs, protocols, &mut length);
-    count(number, length)
+    let word = raw::support_reply_length(asked.number(), pairs, protocols, &mut length);
+    count(word, length)
 }
 
 /// Writes a key-exchange request. Refusals: 8 for a list; then 10.
@@ -108,8 +103,8 @@ pub fn write_request<'o>(
     out: &'o mut [u8],
 ) -> Result<&'o mut [u8], Refused> {
     let mut written = [0];
-    let number = raw::write_request(protocols, algorithms, denied.tray, denied.used, out, &mut written);
-    front(count(number, written), out)
+    let word = raw::write_request(protocols, algorithms, denied.tray, denied.used[0], out, &mut written);
+    front(count(word, written), out)
 }
 
 /// The length of that request. Refusals: 8.
@@ -119,13 +114,13 @@ pub fn request_length(
     denied: &Names<'_>,
 ) -> Result<usize, Refused> {
     let mut length = [0];
-    let number = raw::request_length(protocols, algorithms, denied.tray, denied.used, &mut length);
-    count(number, length)
+    let word = raw::request_length(protocols, algorithms, denied.tray, denied.used[0], &mut length);
+    count(word, length)
 }
 
 /// What a writer answers: how many bytes, or its refusal.
-pub(crate) fn count(number: u32, [bytes]: [usize; 1]) -> Result<usize, Refused> {
-    Refused::unless_zero(number).map(|()| bytes)
+pub(crate) fn count(word: u64, [bytes]: raw::Count) -> Result<usize, Refused> {
+    accepted(word).map(|()| bytes)
 }
 
 /// The front of an output that was written.

@@ -1,11 +1,15 @@
-//! Every call of the crate on good and bad input. What is lent for writing stands between guards; what a call may not change is looked at, all of it
-//! on a refusal. The expected bytes are worked out by hand from document 01, as in tests/abi/calls.c.
+//! Every call of the crate on good and bad input. What is lent for writing stands between guards; what a call may not
+//! change is looked at, all of it on a refusal. The expected bytes are worked out by hand from document 01, as in
+//! tests/abi/calls.c.
 
 use ntske::*;
-use std::collections::BTreeSet;
 use std::fmt::Debug;
 
 const GUARD: usize = 32;
+
+/// What the same library looks like from C, and messages with their listings.
+const HEADER: &str = include_str!("../../../include/ntske.h");
+const LISTINGS: &str = include_str!("../../../tests/listings");
 
 /// Memory to lend, between guards.
 struct Lent<T> {
@@ -191,7 +195,8 @@ fn a_reply_is_read_or_refused() {
         assert_eq!((reply.protocol, reply.algorithm), (NextProtocol(0), AeadAlgorithm(17)));
         assert_eq!((reply.server, reply.port, reply.keep_alive), (Some(Name::new("a.b")), Some(123), true));
         assert_eq!(reply.cookies.into_iter().map(Cookie::bytes).collect::<Vec<_>>(), [&[0xAA][..], &[]]);
-        assert_eq!((reply.cookies.len(), reply.cookies.get(2)), (2, None));
+        assert_eq!(reply.cookies.len(), 2);
+        assert!(reply.cookies.get(2).is_none() && reply.cookies.get(usize::MAX).is_none());
     };
     reply(all, 65535, 4, look, &[33, 1, 38, 0]);
     reply_refused(one, 0, 2, Refused::UnexpectedEof, 0);
@@ -228,13 +233,15 @@ fn records_are_read_and_written() {
         (Record::Unknown { kind: 11, critical: true, data: &[1] }, "800B 0001 01"),
         (Record::FixedKeyRequest(Keys::new(&four)), "800C 0004 01020304"),
         (Record::NtpServerDeny(Name::new(text)), "000D 0003 41C280"),
-        (Record::Authentication(Name::new("")), "000E 0000"),
+        (Record::Authentication(Authentication::new("")), "000E 0000"),
         (Record::Unknown { kind: 32767, critical: false, data: &four }, "7FFF 0004 01020304"),
     ] {
         writes(Ok(written), |out| record.write(out));
         let message = hex(&format!("FF {written} FF"));
         assert_eq!(record.length(), Ok(message.len() - 2));
-        assert_eq!(Message::new(&message).record(1), Ok((record, message.len() - 1)));
+        let (read, next) = Message::new(&message).record(1).unwrap();
+        assert_eq!((format!("{read:?}"), next), (format!("{record:?}"), message.len() - 1));
+        writes(Ok(written), |out| read.write(out));
     }
     let long = vec![0x61; 65536];
     let name = std::str::from_utf8(&long).unwrap();
@@ -257,11 +264,113 @@ fn records_are_read_and_written() {
     let message = hex(M);
     let message = Message::new(&message);
     for place in [16, 17, usize::MAX] {
-        assert_eq!(message.record(place), Err(Refusal { why: Refused::UnexpectedEof, place }));
+        assert_eq!(message.record(place).unwrap_err(), Refusal { why: Refused::UnexpectedEof, place });
     }
-    assert_eq!(Message::new(&[]).record(0), Err(Refusal { why: Refused::UnexpectedEof, place: 0 }));
-    let port = hex("8007 0003 007B");
-    assert_eq!(Message::new(&port).record(0), Err(Refusal { why: Refused::InvalidData, place: 0 }));
+    assert_eq!(Message::new(&[]).record(0).unwrap_err(), Refusal { why: Refused::UnexpectedEof, place: 0 });
+    let port = hex(&format!("{M} 8007 0003 007B"));
+    assert_eq!(Message::new(&port).record(16).unwrap_err(), Refusal { why: Refused::InvalidData, place: 16 });
+}
+
+#[test]
+fn the_records_of_a_message_come_one_after_the_other() {
+    let walked = |text: &str| {
+        let message = hex(text);
+        let mut records = Message::new(&message).records();
+        let mut seen = vec![];
+        for placed in records.by_ref().flatten() {
+            assert_eq!(placed.body.len(), usize::from(placed.size));
+            assert_eq!(placed.body, &message[placed.place + 4..][..placed.body.len()]);
+            assert_eq!(
+                format!("{:?}", Message::new(&message).record(placed.place).unwrap().0),
+                format!("{:?}", placed.record)
+            );
+            seen.push((placed.place, placed.kind, placed.critical, placed.size));
+        }
+        assert!(records.next().is_none());
+        (seen, Message::new(&message).records().find_map(Result::err))
+    };
+    let m = vec![(0, 1, true, 2), (6, 4, true, 2), (12, 0, true, 0)];
+    assert_eq!(walked(M), (m.clone(), None));
+    // what follows the end record is not looked at, and one may have a body
+    assert_eq!(walked(&format!("{M} 8007 0003 007B")), (m, None));
+    assert_eq!(walked("0000 0001 FF 8001 0000"), (vec![(0, 0, false, 1)], None));
+    // the bit of each kind, known and unknown
+    let bits = "0001 0002 0000 7FFF 0001 AA 800B 0000 000C 0002 0102 8000 0000";
+    let all = vec![(0, 1, false, 2), (6, 32767, false, 1), (11, 11, true, 0), (15, 12, false, 2), (21, 0, true, 0)];
+    assert_eq!(walked(bits), (all, None));
+    // a refusal is the last that comes
+    let refused = |why, place| Some(Refusal { why, place });
+    assert_eq!(walked(""), (vec![], refused(Refused::UnexpectedEof, 0)));
+    assert_eq!(walked("0008 0000"), (vec![(0, 8, false, 0)], refused(Refused::UnexpectedEof, 4)));
+    let ill = "8001 0002 0000 8007 0003 007B00 8000 0000";
+    assert_eq!(walked(ill), (vec![(0, 1, true, 2)], refused(Refused::InvalidData, 6)));
+    let cut = hex("0008 0000 80");
+    let mut records = Message::new(&cut).records();
+    assert!(records.next().unwrap().is_ok() && records.next().unwrap().is_err());
+    assert!(records.next().is_none() && records.next().is_none());
+}
+
+#[test]
+fn iterators_tell_how_many_are_left() {
+    fn counts<T>(mut left: impl ExactSizeIterator<Item = T>, count: usize) {
+        for n in (0..count).rev() {
+            assert_eq!((left.len(), left.size_hint()), (n + 1, (n + 1, Some(n + 1))));
+            assert!(left.next().is_some());
+        }
+        assert_eq!((left.len(), left.size_hint()), (0, (0, Some(0))));
+        assert!(left.next().is_none() && left.next().is_none());
+        assert_eq!(left.len(), 0);
+    }
+    let twelve = hex("000F 0020 0011 0040 FFFF 0001");
+    for len in 0..=12 {
+        counts(List::<NextProtocol>::new(&twelve[..len]).iter(), len / 2);
+        counts(List::<AeadAlgorithm>::new(&twelve[..len]).into_iter(), len / 2);
+        counts(List::<AlgorithmDescription>::new(&twelve[..len]).iter(), len / 4);
+    }
+    let names = hex("8001 0000 8004 0000 000D 0003 612E62 000D 0000 000D 0001 63 8000 0000");
+    let mut table = [0; 8];
+    let Ok(Request::KeyExchange { denied, .. }) = Message::new(&names).request(65535, &mut table) else { panic!() };
+    counts(denied.iter(), 3);
+    counts(denied.into_iter(), 3);
+    assert_eq!(format!("{:?}", denied.iter()), r#"["a.b", "", "c"]"#);
+    let cookies = hex("8001 0002 0000 8004 0002 000F 0005 0001 AA 0005 0000 8000 0000");
+    let reply = Message::new(&cookies).reply(65535, &mut table).unwrap();
+    counts(reply.cookies.iter(), 2);
+    assert_eq!(format!("{:?}", reply.cookies.iter()), "[Cookie(1 bytes), Cookie(0 bytes)]");
+}
+
+#[test]
+fn a_message_is_listed() {
+    let mut count = 0;
+    for block in LISTINGS.split("\n<").skip(1) {
+        let (message, rest) = block.split_once('\n').unwrap();
+        let want: String =
+            rest.lines().filter_map(|line| line.strip_prefix("> ")).flat_map(|line| [line, "\n"]).collect();
+        let message = hex(message);
+        for size in [want.len(), want.len() + 3, want.len() - 1, 0] {
+            let mut out = bytes(size);
+            let listed = Message::new(&message).list(LIMIT, 1024, out.memory());
+            if size < want.len() {
+                assert_eq!(listed, Err(Refused::OutputTooShort));
+                out.holds(0, &[]);
+            } else {
+                assert_eq!(listed, Ok(&want[..]));
+                out.holds(0, want.as_bytes());
+            }
+        }
+        count += 1;
+    }
+    assert_eq!(count, LISTINGS.lines().filter(|line| line.starts_with('<')).count());
+    let (message, mut out) = (hex("8001 0000 8004 0000 000D 0001 61 8000 0000"), vec![0; LISTING]);
+    let last = |limit, room, out: &mut [u8]| {
+        Message::new(&message).list(limit, room, out).unwrap().lines().last().unwrap().to_string()
+    };
+    assert_eq!(last(LIMIT, 1, &mut out), "request key-exchange protocols 0 algorithms 0 denied 1");
+    assert_eq!(last(LIMIT, 0, &mut out), "refused 7 at 13");
+    assert_eq!(last(16, 1, &mut out), "refused 1 at 13");
+    // as many lines as there can be, and so the longest listing
+    let most = [0x7F, 0xFF, 0, 0].repeat(16384);
+    assert!(Message::new(&most).list(LIMIT, 0, &mut out).unwrap().ends_with("\n65528 32767 - 0\nrefused 1 at 65532\n"));
 }
 
 #[test]
@@ -317,6 +426,48 @@ fn one_is_chosen() {
     assert_eq!(chosen("0000", "0000", &ntp, &siv), Err(Refused::NoOverlappingAlgorithm));
     assert_eq!(chosen("0000 00", "000F", &ntp, &siv), Err(Refused::InvalidValue));
     assert_eq!(chosen("8001", "00", &ntp, &siv), Err(Refused::InvalidValue));
+
+    let chosen = |protocols: &str, own: &[NextProtocol]| choose_protocol(List::new(&hex(protocols)), own).map(|p| p.0);
+    assert_eq!(chosen("8001 0000", &ntp), Ok(0));
+    assert_eq!(chosen("8001 0000", &[NextProtocol(0), NextProtocol(0x8001)]), Ok(0x8001));
+    assert_eq!(chosen("8001", &ntp), Err(Refused::NoOverlappingProtocol));
+    assert_eq!(chosen("", &ntp), Err(Refused::NoOverlappingProtocol));
+    assert_eq!(chosen("0000", &[]), Err(Refused::NoOverlappingProtocol));
+    assert_eq!(chosen("0000 00", &ntp), Err(Refused::InvalidValue));
+}
+
+#[test]
+fn an_algorithm_has_keys_of_a_length() {
+    assert_eq!(AeadAlgorithm::AES_SIV_CMAC_256.key_length(), Ok(32));
+    assert_eq!(AeadAlgorithm::AES_SIV_CMAC_512.key_length(), Ok(64));
+    for algorithm in [0, 14, 16, 18, 30, 65535].map(AeadAlgorithm) {
+        assert_eq!(algorithm.key_length(), Err(Refused::AeadNotSupported(algorithm)));
+    }
+}
+
+#[test]
+fn what_tls_is_told() {
+    let defined =
+        |name: &str, value: String| assert!(HEADER.contains(&format!("#define NTSKE_{name} {value}\n")), "{name}");
+    defined("ALPN", format!("{ALPN:?}"));
+    defined("PORT", PORT.to_string());
+    defined("EXPORTER_LABEL", format!("{EXPORTER_LABEL:?}"));
+    defined("LIMIT", LIMIT.to_string());
+    defined("LISTING", LISTING.to_string());
+    defined("MOST_COOKIES", Plan::MOST_COOKIES.to_string());
+    defined("FIELD_HEADER", Tray::field(0).to_string());
+    defined("FIELD_HEADER", Names::field(0).to_string());
+    let context = |s2c| exporter_context(NextProtocol(0x1234), AeadAlgorithm(0x5678), s2c);
+    assert_eq!((context(false), context(true)), ([0x12, 0x34, 0x56, 0x78, 0], [0x12, 0x34, 0x56, 0x78, 1]));
+    defined("CONTEXT_LEN", context(true).len().to_string());
+}
+
+#[test]
+fn package_header_and_archive_are_of_one_version() {
+    assert_eq!(version(), VERSION);
+    assert!(HEADER.contains(&format!("#define NTSKE_VERSION {VERSION:#08x}\n")));
+    let [a, b, c, d, e, major, minor, patch] = version().to_be_bytes();
+    assert_eq!(([a, b, c, d, e], format!("{major}.{minor}.{patch}").as_str()), ([0; 5], env!("CARGO_PKG_VERSION")));
 }
 
 #[test]
@@ -371,16 +522,16 @@ fn other_replies_are_written() {
     for number in 0..8 {
         let part = |bit: u8, text| if number & bit != 0 { text } else { "" };
         let want = format!("{}{}{} 8000 0000", part(1, a), part(2, p), part(4, k));
-        writes(Ok(&want), |out| write_support(asked(number), &pairs, &protocols, out));
-        assert_eq!(support_length(asked(number), &pairs, &protocols), Ok(hex(&want).len()));
+        writes(Ok(&want), |out| write_support_reply(asked(number), &pairs, &protocols, out));
+        assert_eq!(support_reply_length(asked(number), &pairs, &protocols), Ok(hex(&want).len()));
         for (pairs, protocols, bit) in [(&many_pairs[..], &protocols[..], 1), (&pairs[..], &many[..], 2)] {
             if number & bit != 0 {
-                writes(Err(Refused::InvalidInput), |out| write_support(asked(number), pairs, protocols, out));
-                assert_eq!(support_length(asked(number), pairs, protocols), Err(Refused::InvalidInput));
+                writes(Err(Refused::InvalidInput), |out| write_support_reply(asked(number), pairs, protocols, out));
+                assert_eq!(support_reply_length(asked(number), pairs, protocols), Err(Refused::InvalidInput));
             }
         }
     }
-    writes(Ok("800A 0000 8009 0000 0008 0000 8000 0000"), |out| write_support(asked(7), &[], &[], out));
+    writes(Ok("800A 0000 8009 0000 0008 0000 8000 0000"), |out| write_support_reply(asked(7), &[], &[], out));
 }
 
 #[test]
@@ -391,10 +542,12 @@ fn a_request_is_written() {
     assert_eq!(request_length(&protocols, &algorithms, &none), Ok(16));
     let mut lent = bytes(10);
     let mut names = Names::new(lent.memory());
-    names.push(Name::new("a.b")).unwrap();
-    assert_eq!(names.push(Name::new("cd")).unwrap_err(), Refused::OutputTooShort);
-    names.push(Name::new("")).unwrap();
-    assert_eq!(names.push(Name::new(&"c".repeat(65536))).unwrap_err(), Refused::InvalidInput);
+    names.append(Name::new("a.b")).unwrap();
+    assert_eq!(names.append(Name::new("cd")).unwrap_err(), Refused::OutputTooShort);
+    names.append(Name::new("")).unwrap();
+    assert_eq!(names.append(Name::new("")).unwrap_err(), Refused::OutputTooShort);
+    assert_eq!(names.append(Name::new(&"c".repeat(65536))).unwrap_err(), Refused::InvalidInput);
+    assert_eq!(format!("{names:?}"), "Names(9 bytes used)");
     let want = "8001 0002 0000 8004 0002 000F 000D 0003 612E62 000D 0000 8000 0000";
     writes(Ok(want), |out| write_request(&protocols, &algorithms, &names, out));
     assert_eq!(request_length(&protocols, &algorithms, &names), Ok(hex(want).len()));
@@ -407,29 +560,157 @@ fn a_request_is_written() {
     lent.holds(0, &hex("02 0003 612E62 02 0000"));
 }
 
+/// The refusals that the package knows, in the order of their numbers.
+const REFUSALS: [Refused; 15] = [
+    Refused::UnexpectedEof,
+    Refused::InvalidData,
+    Refused::UnrecognizedCriticalRecord,
+    Refused::Invalid,
+    Refused::AeadNotSupported(AeadAlgorithm(16)),
+    Refused::IncorrectSizedKey,
+    Refused::TableFull,
+    Refused::InvalidInput,
+    Refused::InvalidValue,
+    Refused::OutputTooShort,
+    Refused::Error(ErrorCode(16)),
+    Refused::UnknownWarning(WarningCode(16)),
+    Refused::NoOverlappingProtocol,
+    Refused::NoOverlappingAlgorithm,
+    Refused::NoCookie,
+];
+
 #[test]
 fn each_refusal_has_its_number_and_words() {
-    use Refused::*;
-    let all = [
-        UnexpectedEof,
-        InvalidData,
-        UnrecognizedCriticalRecord,
-        Invalid,
-        AeadNotSupported(AeadAlgorithm(16)),
-        IncorrectSizedKey,
-        TableFull,
-        InvalidInput,
-        InvalidValue,
-        OutputTooShort,
-        Error(ErrorCode(2)),
-        UnknownWarning(WarningCode(3)),
-        NoOverlappingProtocol,
-        NoOverlappingAlgorithm,
-        NoCookie,
-    ];
-    assert!(all.iter().map(|why| why.number()).eq(1..=15));
-    assert_eq!(all.iter().map(|why| why.to_string()).collect::<BTreeSet<_>>().len(), 15);
-    assert_eq!(all.iter().filter_map(|why| why.code()).collect::<Vec<_>>(), [16, 2, 3]);
-    let refusal = Refusal { why: Error(ErrorCode(0)), place: 7 };
+    assert!(REFUSALS.iter().map(|why| why.number()).eq(1..=15));
+    let beside: Vec<_> = REFUSALS.iter().filter(|why| why.beside() == Some(16)).map(|why| why.number()).collect();
+    assert_eq!((beside, REFUSALS.iter().filter_map(|why| why.beside()).count()), (vec![5, 11, 12], 3));
+
+    // the header's words are the same, behind the one for what is accepted
+    let table = HEADER.split_once("words[] = {").unwrap().1.split_once("};").unwrap().0;
+    let words: Vec<_> = table.split('"').skip(1).step_by(2).collect();
+    assert_eq!(words[1..], REFUSALS.map(Refused::words));
+
+    let codes: Vec<_> = REFUSALS.iter().map(|why| why.error_code().0).collect();
+    assert_eq!(codes, [1, 1, 0, 1, 1, 1, 2, 2, 2, 2, 2, 2, 2, 2, 2]);
+
+    let refusal = Refusal { why: Refused::Error(ErrorCode(0)), place: 7 };
     assert_eq!(refusal.to_string(), "refused 11 at 7: the reply has an error record, code 0");
+    assert_eq!(Refused::NoCookie.to_string(), "no cookie");
+    let errors: [Box<dyn std::error::Error>; 2] = [refusal.into(), refusal.why.into()];
+    assert_eq!(errors[1].to_string(), "the reply has an error record, code 0");
+}
+
+#[test]
+fn a_word_is_taken_apart() {
+    assert_eq!(Refusal::from_word(0), None);
+    for number in 0..=u16::MAX {
+        let refusal = Refusal::from_word(u64::from(number) | 16 << 16 | 0xFFFF_FFFF << 32).unwrap();
+        assert_eq!((refusal.why.number(), refusal.place), (number, 0xFFFF_FFFF));
+        match REFUSALS.get(usize::from(number).wrapping_sub(1)) {
+            Some(known) => assert_eq!(refusal.why, *known),
+            None => assert_eq!(refusal.why, Refused::Unknown { number, beside: 16 }),
+        }
+    }
+    let unknown = Refusal::from_word(0x0000_0007_0003_0063).unwrap();
+    assert_eq!(unknown, Refusal { why: Refused::Unknown { number: 99, beside: 3 }, place: 7 });
+    assert_eq!((unknown.why.beside(), unknown.why.error_code()), (Some(3), ErrorCode::INTERNAL_SERVER_ERROR));
+    assert_eq!(unknown.why.to_string(), "a refusal that this package does not know, number 99, code 3");
+}
+
+/// Nothing that holds a secret can be compared with `==`: with PartialEq there would be two ways to read the line, and
+/// it would not compile.
+macro_rules! not_compared {
+    ($($Type:ty)*) => {
+        $(const _: fn() = || {
+            trait Ambiguous<A> {
+                fn asked() {}
+            }
+            struct Compared;
+            impl<T: ?Sized> Ambiguous<()> for T {}
+            impl<T: ?Sized + PartialEq> Ambiguous<Compared> for T {}
+            let _ = <$Type as Ambiguous<_>>::asked;
+        };)*
+    };
+}
+not_compared!(Key Keys Cookie Authentication Record Placed Message Cookies Request Reply Tray Plan);
+
+/// Neither form of `{:?}` shows three bytes of a secret one after the other: as text, in decimal or in hexadecimal,
+/// whatever is between them.
+fn hides(shown: impl Debug, secret: &[u8]) {
+    let plain = |text: String| text.replace("0x", "").chars().filter(|c| c.is_alphanumeric()).collect::<String>();
+    for text in [format!("{shown:?}"), format!("{shown:#?}")].map(plain) {
+        for three in secret.windows(3) {
+            let decimal: String = three.iter().map(|byte| byte.to_string()).collect();
+            let hex: String = three.iter().map(|byte| format!("{byte:02x}")).collect();
+            for form in [decimal, hex.to_uppercase(), hex, String::from_utf8(three.to_vec()).unwrap()] {
+                assert!(!text.contains(&form), "{form} of the secret is in {shown:?}");
+            }
+        }
+    }
+}
+
+#[test]
+fn no_secret_is_shown() {
+    // letters whose numbers have three digits, so that no number that may be shown is like them
+    let secret: Vec<u8> = b"roughwizstylmnpxvk".iter().copied().cycle().take(64).collect();
+    let text = std::str::from_utf8(&secret).unwrap();
+    hides(secret.len(), &secret);
+    let found = |shown: &dyn Debug| std::panic::catch_unwind(std::panic::AssertUnwindSafe(|| hides(shown, &secret)));
+    assert!(found(&secret).is_err() && found(&text).is_err() && found(&format_args!("{secret:02X?}")).is_err());
+
+    let mut records = vec![];
+    for record in [
+        Record::NewCookie(Cookie::new(&secret)),
+        Record::FixedKeyRequest(Keys::new(&secret)),
+        Record::Authentication(Authentication::new(text)),
+        Record::Unknown { kind: 16384, critical: false, data: &secret },
+    ] {
+        hides(record, &secret);
+        let mut out = [0; 80];
+        records.extend_from_slice(record.write(&mut out).unwrap());
+    }
+    let lists = hex("8001 0002 0000 8004 0002 000F");
+    let message = [&lists[..], &records, &[0x80, 0, 0, 0]].concat();
+    let message = Message::new(&message);
+    hides(message, &secret);
+    assert_eq!(format!("{message:?}"), format!("Message({} bytes)", message.bytes().len()));
+    hides(message.records(), &secret);
+    for placed in message.records() {
+        hides(placed.unwrap(), &secret);
+    }
+    let shown: Vec<_> = message.records().map(|placed| format!("{:?}", placed.unwrap().record)).collect();
+    assert_eq!(
+        shown[2..6],
+        [
+            "NewCookie(Cookie(64 bytes))",
+            "FixedKeyRequest(Keys(64 bytes))",
+            "Authentication(Authentication(64 bytes))",
+            "Unknown { kind: 16384, critical: false, data: 64 bytes }",
+        ]
+    );
+
+    let mut table = [0; 4];
+    let (mut keys, mut known) = ([0; 80], [0; 80]);
+    let keys = Record::FixedKeyRequest(Keys::new(&secret)).write(&mut keys).unwrap();
+    let known = Record::Authentication(Authentication::new(text)).write(&mut known).unwrap();
+    let fixed = [&lists[..], keys, known, &[0x80, 0, 0, 0]].concat();
+    let request = Message::new(&fixed).request(LIMIT, &mut table).unwrap();
+    assert!(matches!(request, Request::FixedKey { c2s, .. } if c2s.bytes() == &secret[..32]));
+    hides(request, &secret);
+    let support = [&hex("8009 0000")[..], known, &[0x80, 0, 0, 0]].concat();
+    hides(Message::new(&support).request(LIMIT, &mut table).unwrap(), &secret);
+
+    let (mut buffer, mut out) = (secret.repeat(3), [0; 512]);
+    hides(Tray::new(&mut buffer), &secret);
+    assert_eq!(format!("{:?}", Tray::new(&mut buffer)), "Tray(192 bytes)");
+    hides(Names::new(&mut buffer), &secret);
+    let mut plan = Plan::new(NextProtocol(0), AeadAlgorithm(15), Tray::new(&mut buffer));
+    plan.append(&secret).unwrap().append(&secret).unwrap();
+    hides(&plan, &secret);
+    let written = plan.write(None, &mut out).unwrap();
+    let reply = Message::new(written).reply(LIMIT, &mut table).unwrap();
+    assert_eq!(reply.cookies.get(1).unwrap().bytes(), secret);
+    hides(reply, &secret);
+    hides(reply.cookies, &secret);
+    hides(reply.cookies.iter(), &secret);
 }

@@ -1,38 +1,104 @@
--- Laws of the calls that answer into lent cells.
+-- Laws of the calls that answer a word and into lent cells.
 -- Assumes nothing.
-use mathlib.Core.Path.{_≡_, sym, ap, _∙_}
-use mathlib.Core.Bool.{true, false}
-use mathlib.Core.List.{List}
-use Prim.Native.Nat.{ℕ, _≤_, _<_}
-use lib.ListN.{length}
-use borrow.Author.Tests.{lt-ltb, le-ltb}
+use mathlib.Core.Path.{_≡_, refl, sym, ap, subst, _∙_}
+use mathlib.Core.List.{List, [], _∷_}
+use mathlib.Core.Bool.{Bool, true, false, cond}
+use Prim.Native.Nat.{ℕ, _+_, _*_, _/_, _%_, _<_, _≤_}
+use native.Mathlib.Omega.{arith}
+use lib.Dec.{ltb}
 use Rattle.wire.specs.Over.{over}
-use Rattle.cells.specs.Cells.{few, Gives}
+use Rattle.nts.specs.Refusal.{Beside, nothing, Refused}
+use Rattle.layout.specs.Write.{Count, bytes, refused, fitted, toldCount, leftBy, Wrote}
+use Rattle.layout.specs.declared.ByteCount.{ByteCount}
+use Rattle.cells.specs.Cells.{besideNumber, word, unplaced, Given, cells, refuses, Gives, counted, Writes}
 
--- there are too few cells, or enough
-pub few-so : (need : ℕ) (lent : List ℕ) → length lent < need → few need lent ≡ true
-few-so need lent h = lt-ltb (length lent) need h
+-- a word is the sum of what was found for it
+pub adds-up : {n k m : ℕ} (b : Beside) (place : ℕ) → n ≡ k → m ≡ besideNumber b → n + 65536 * m + 4294967296 * place ≡ word (record { number = k; beside = b; place = place })
+unfolding word
+adds-up b place p q = rw (p, q)
 
-pub few-not : (need : ℕ) (lent : List ℕ) → need ≤ length lent → few need lent ≡ false
-few-not need lent h = le-ltb (length lent) need h
+-- the word and the cells are those of what a callee told, whatever its contract calls that
+pub given : {T : Type 0} (f : T → Given) {t u : T} {lent after : List ℕ} {r : ℕ} → t ≡ u → Gives (f t) lent r after → Gives (f u) lent r after
+given f {lent = lent} {after = after} {r = r} e p = subst (λ x. Gives (f x) lent r after) e p
 
--- too few cells: 10, and no cell changed
-pub gives-few : {need number : ℕ} {answer lent : List ℕ} → length lent < need → Gives need number answer lent 10 lent
-gives-few {need} {number} {answer} {lent} h =
-    record { says = rw (few-so need lent h); left = rw (few-so need lent h) }
+-- a refusal stays one, whatever the room
+pub fitted-no : {a : Count} (room n : ℕ) (b : Beside) → refused n b ≡ a → refused n b ≡ fitted room a
+unfolding fitted
+fitted-no room n b e = rw (← e)
 
--- cells there: the number, and the answer at their front
-pub gives : {need number r : ℕ} {answer lent after : List ℕ} → need ≤ length lent → r ≡ number → after ≡ over answer lent
-    → Gives need number answer lent r after
-gives {need} {number} {r} {answer} {lent} {after} h p q =
-    record { says = rw (few-not need lent h) p; left = rw (few-not need lent h) q }
+-- a writer's answer and output, and the word and cell that were given for it
+pub wrote : {a : Count} {b o o′ lent after : List ℕ} {x : ByteCount} {r : ℕ} → Wrote a b o x o′ → Gives (counted (toldCount x)) lent r after
+    → Writes a b o lent r o′ after
+wrote w p = record { gives = given counted (w .says) p; wrote = w .left }
 
--- the same of what a callee told: t is what it answered, and u what its contract calls that
-pub gives-told : {T : Type 0} (number : T → ℕ) (cells : T → List ℕ) {need r : ℕ} {lent after : List ℕ} {t u : T} → need ≤ length lent → t ≡ u
-    → r ≡ number t → after ≡ over (cells t) lent → Gives need (number u) (cells u) lent r after
-gives-told number cells {lent = lent} h e p q = gives h (p ∙ ap number e) (q ∙ ap (λ x. over (cells x) lent) e)
-
--- what a contract says in this way, it says of one number and one list of cells
-pub gives-same : {need number r r′ : ℕ} {answer lent after after′ : List ℕ} → Gives need number answer lent r after
-    → Gives need number answer lent r′ after′ → (r ≡ r′) × (after ≡ after′)
+-- what a contract says in this way, it says of one word and one list of cells, and of one output
+pub gives-same : {g : Given} {lent after after′ : List ℕ} {r r′ : ℕ} → Gives g lent r after → Gives g lent r′ after′ → (r ≡ r′) × (after ≡ after′)
 gives-same p q = (p .says ∙ sym (q .says), p .left ∙ sym (q .left))
+
+pub writes-same : {a : Count} {b o lent o′ o″ after after′ : List ℕ} {r r′ : ℕ} → Writes a b o lent r o′ after → Writes a b o lent r′ o″ after′
+    → (r ≡ r′) × (o′ ≡ o″) × (after ≡ after′)
+writes-same p q = (p .gives .says ∙ sym (q .gives .says), p .wrote ∙ sym (q .wrote), p .gives .left ∙ sym (q .gives .left))
+
+-- ---- a word that is not 0
+
+-- it is a refusal's, and so bears its number ..
+pub gives-refused : {g : Given} {lent after : List ℕ} {r : ℕ} → Gives g lent r after → (r ≡ 0 → ⊥) → (y : Refused) × (g ≡ refuses y) × (r ≡ word y)
+gives-refused {g = cells c} p h = absurd (h (p .says))
+gives-refused {g = refuses y} p h = (y, refl, p .says)
+
+-- .. and no cell changes, and no output
+pub gives-kept : {g : Given} {lent after : List ℕ} {r : ℕ} → Gives g lent r after → (r ≡ 0 → ⊥) → after ≡ lent
+gives-kept {g = cells c} p h = absurd (h (p .says))
+gives-kept {g = refuses y} p h = p .left
+
+pub writes-kept : {a : Count} {b o lent o′ after : List ℕ} {r : ℕ} → Writes a b o lent r o′ after → (r ≡ 0 → ⊥) → (o′ ≡ o) × (after ≡ lent)
+unfolding leftBy
+writes-kept {a = bytes n} p h = absurd (h (p .gives .says))
+writes-kept {a = refused k b} p h = (p .wrote, p .gives .left)
+
+-- it tells the number, the number beside it, and the place
+pub apart : (y : Refused) → y .number < 65536 → besideNumber (y .beside) < 65536
+    → (word y % 65536 ≡ y .number) × (word y / 65536 % 65536 ≡ besideNumber (y .beside)) × (word y / 4294967296 ≡ y .place)
+unfolding word
+apart y n b = (omega arith, omega arith, omega arith)
+
+-- ---- a word that is 0
+
+-- it is no refusal's, since no refusal's number is 0
+pub word-some : (y : Refused) → 1 ≤ y .number → word y ≡ 0 → ⊥
+unfolding word
+word-some y h e = omega arith
+
+abbrev pub Sure : Given → Type 0
+Sure (cells c) = Unit {0}
+Sure (refuses y) = 1 ≤ y .number
+
+abbrev pub SureCount : Count → Type 0
+SureCount (bytes n) = Unit {0}
+SureCount (refused k b) = 1 ≤ k
+
+-- so something is given, and that is what the cells hold ..
+pub gives-granted : {g : Given} {lent after : List ℕ} {r : ℕ} → Gives g lent r after → Sure g → r ≡ 0 → g ≡ cells after
+gives-granted {g = cells c} p s z = ap cells (sym (p .left))
+gives-granted {g = refuses y} p s z = absurd (word-some y s (sym (p .says) ∙ z))
+
+pub counted-granted : {a : Count} {lent after : List ℕ} {r : ℕ} → Gives (counted a) lent r after → SureCount a → r ≡ 0 → (n : ℕ) × (a ≡ bytes n) × (after ≡ n ∷ [])
+counted-granted {a = bytes n} p s z = (n, refl, p .left)
+counted-granted {a = refused k b} p s z = absurd (word-some (unplaced k b) s (sym (p .says) ∙ z))
+
+-- .. and something is written
+pub writes-granted : {a : Count} {b o lent o′ after : List ℕ} {r : ℕ} → Writes a b o lent r o′ after → SureCount a → r ≡ 0
+    → (n : ℕ) × (a ≡ bytes n) × (o′ ≡ over b o) × (after ≡ n ∷ [])
+unfolding leftBy
+writes-granted {a = bytes n} p s z = (n, refl, p .wrote, p .gives .left)
+writes-granted {a = refused k b} p s z = absurd (word-some (unplaced k b) s (sym (p .gives .says) ∙ z))
+
+-- one of two counts, and a count that must fit
+pub count-if : (t : Bool) (a b : Count) → SureCount a → SureCount b → SureCount (cond t a b)
+count-if true a b p q = p
+count-if false a b p q = q
+
+pub count-fitted : (room : ℕ) (a : Count) → SureCount a → SureCount (fitted room a)
+unfolding fitted
+count-fitted room (bytes n) s = count-if (ltb room n) (refused 10 nothing) (bytes n) (omega arith) tt
+count-fitted room (refused k b) s = s

@@ -1,25 +1,49 @@
--- What a host in another language is given and gives: numbers in cells of a machine word that it lends, and the number returned, which is 0 or the
--- refusal's number by 01. include/ntske.h says the same in words. 01 has no cells: that too few of them are 10, before all else, and that cells
--- which hold no plan or no record are 9, is this project's (docs/DECISIONS.md).
-use Prim.Native.Nat.{ℕ}
+-- What a host in another language is given: one word that each call returns, and cells of a machine word that it lends for the rest of an answer, as many
+-- as the answer has. include/ntske.h says the same in words. 01 has neither word nor cells: both are this project's (docs/DECISIONS.md).
+use Prim.Native.Nat.{ℕ, _+_, _*_}
 use mathlib.Core.Path.{_≡_}
 use mathlib.Core.List.{List, [], _∷_}
 use mathlib.Core.Bool.{Bool, cond}
-use lib.ListN.{length, getD}
-use lib.Dec.{ltb}
-use Rattle.wire.specs.Over.{over}
+use lib.ListN.{getD}
+use Rattle.nts.specs.Refusal.{Beside, nothing, code, Refused}
 use Rattle.layout.specs.Write.{Count, bytes, refused, leftBy}
+
+-- ---- the word of a refusal
+
+-- the number beside it, 0 for none: 5, 11 and 12 have one, and no other number has
+abbrev pub besideNumber : Beside → ℕ
+besideNumber nothing = 0
+besideNumber (code c) = c
+
+-- bits 0 to 15 are its number, bits 16 to 31 the number beside it, and bits 32 to 63 its place
+unfoldable pub word : Refused → ℕ
+word r = r .number + 65536 * besideNumber (r .beside) + 4294967296 * r .place
+
+-- a refusal that has no place, or whose place is the caller's own argument
+abbrev pub unplaced : ℕ → Beside → Refused
+unplaced k b = record { number = k; beside = b; place = 0 }
 
 -- ---- an answer
 
--- fewer cells are lent than an answer needs
-abbrev pub few : ℕ → List ℕ → Bool
-few need lent = ltb (length lent) need
+-- what a call tells: what is put into the lent cells, or a refusal
+pub data Given : Type 0 where
+  cells : List ℕ → Given
+  refuses : Refused → Given
 
--- a call that answers into lent cells: 10, and no cell changed, where there are too few; otherwise the number, and the answer at the front of the cells
-pub record Gives (need number : ℕ) (answer lent : List ℕ) (r : ℕ) (after : List ℕ) : Type 0 where
-  pub says : r ≡ cond (few need lent) 10 number
-  pub left : after ≡ cond (few need lent) lent (over answer lent)
+-- the word returned is 0 where nothing is refused ..
+abbrev pub returned : Given → ℕ
+returned (cells c) = 0
+returned (refuses r) = word r
+
+-- .. and a refusal changes no cell
+abbrev pub held : Given → List ℕ → List ℕ
+held (cells c) lent = c
+held (refuses r) lent = lent
+
+-- a call that answers into lent cells
+pub record Gives (g : Given) (lent : List ℕ) (r : ℕ) (after : List ℕ) : Type 0 where
+  pub says : r ≡ returned g
+  pub left : after ≡ held g lent
 
 abbrev pub flag : Bool → ℕ
 flag b = cond b 1 0
@@ -30,16 +54,12 @@ cell c i = getD c i 0
 
 -- ---- a count of bytes
 
-abbrev pub countNumber : Count → ℕ
-countNumber (bytes n) = 0
-countNumber (refused k b) = k
+-- one cell
+abbrev pub counted : Count → Given
+counted (bytes n) = cells (n ∷ [])
+counted (refused k b) = refuses (unplaced k b)
 
--- one cell, and none where it is refused
-abbrev pub countCells : Count → List ℕ
-countCells (bytes n) = n ∷ []
-countCells (refused k b) = []
-
--- a writer that answers into a cell: where there is none it is 10, and the output stays too
+-- a writer: how many bytes it wrote, into one cell, and the output afterwards
 pub record Writes (a : Count) (b o lent : List ℕ) (r : ℕ) (o′ after : List ℕ) : Type 0 where
-  pub gives : Gives 1 (countNumber a) (countCells a) lent r after
-  pub wrote : o′ ≡ cond (few 1 lent) o (leftBy a b o)
+  pub gives : Gives (counted a) lent r after
+  pub wrote : o′ ≡ leftBy a b o

@@ -1,26 +1,57 @@
-// What the calls share that a host in C or Rust links: numbers and slices, thin over the other crates. Each call returns 0, or the number of a refusal
-// by document 01, and answers into cells that the host lends: 10, before all else and with nothing changed, where there are too few of them.
+// What the calls share that a host in C or Rust links: numbers, slices and arrays, thin over the other crates. Each call returns one word, 0 or a refusal, and
+// answers into cells that the host lends, which a refusal leaves as they are.
+use nts::Code;
+use nts::NtsError;
 use record::ByteCount;
+ghost use mathlib.Core.Path.{_≡_};
+ghost use Rattle.nts.specs.Refusal.{numberOf, besideOf};
 ghost use Rattle.layout.specs.Write.{toldCount};
-ghost use Rattle.cells.specs.Cells.{countNumber, countCells, Gives};
+ghost use Rattle.cells.specs.Cells.{besideNumber, word, unplaced, Gives, flag, counted};
 
-// The refusals that the calls give of their own.
-pub const NO_VALUE: u32 = 9;
+// Where the number beside a refusal's and its place begin in a word: at bit 16 and at bit 32.
+const BESIDE: u64 = 65536;
 
-pub const NO_ROOM: u32 = 10;
+const PLACE: u64 = 4294967296;
 
-// What a writer or a length answered, into one cell: 10 where there is none.
-pub fn give_count(answer: ByteCount, count: &mut [usize]) -> u32
-    ensures { λ r. ⌜ Gives 1 (countNumber (toldCount answer)) (countCells (toldCount answer)) (now (count .entry)) r (now (count .exit)) ⌝ }
+// A refusal at a place as a word.
+pub fn refused_at(error: NtsError, place: u32) -> u64
+    ensures { λ r. ⌜ r ≡ word (record { number = numberOf error; beside = besideOf error; place = place }) ⌝ }
 {
-    if count.len() < 1 {
-        return NO_ROOM;
+    error.number() as u64 + BESIDE * (beside(error) as u64) + PLACE * (place as u64)
+}
+
+// A refusal that has no place, or whose place the caller knows.
+pub fn refused(error: NtsError) -> u64
+    ensures { λ r. ⌜ r ≡ word (unplaced (numberOf error) (besideOf error)) ⌝ }
+{
+    refused_at(error, 0)
+}
+
+fn beside(error: NtsError) -> u16
+    ensures { λ r. ⌜ r ≡ besideNumber (besideOf error) ⌝ }
+{
+    let code = error.code();
+    match code {
+        Code::None => 0,
+        Code::Number(n) => n,
     }
+}
+
+// What a writer or a length answered.
+pub fn give_count(answer: ByteCount, count: &mut [usize; 1]) -> u64
+    ensures { λ r. ⌜ Gives (counted (toldCount answer)) (now (count .entry)) r (now (count .exit)) ⌝ }
+{
     match answer {
         ByteCount::Bytes(n) => {
-            count[0] = n;
+            *count = [n];
             0
         }
-        ByteCount::Refused(error) => error.number() as u32,
+        ByteCount::Refused(error) => refused(error),
     }
+}
+
+pub fn flag_of(b: bool) -> usize
+    ensures { λ r. ⌜ r ≡ flag b ⌝ }
+{
+    if b { 1 } else { 0 }
 }

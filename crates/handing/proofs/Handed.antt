@@ -1,26 +1,16 @@
--- Laws of a part and of an entry of a table as they are handed out.
+-- What is handed out as cells is what the library hands out as bytes.
 -- Assumes nothing.
 use mathlib.Core.Path.{_≡_, refl, _∙_}
 use mathlib.Core.Bool.{Bool, true, false, cond}
 use mathlib.Core.List.{List, [], _∷_}
-use Prim.Native.Nat.{ℕ, _+_, _*_, _<_, _≤_}
-use native.Mathlib.Omega.{arith}
-use lib.ListN.{length, getD, List·getD-eq-default}
+use Prim.Native.Nat.{ℕ, _+_, _*_}
+use lib.ListN.{length, getD}
 use lib.Dec.{leb}
-use borrow.Author.Tests.{le-leb, lt-leb, leb-false}
+use borrow.Author.Tests.{leb-false}
 use Rattle.wire.specs.Bytes.{partAt}
-use Rattle.wire.specs.Over.{over}
 use Rattle.wire.proofs.Bytes.{part-none, part-empty}
 use Rattle.places.specs.Places.{entryIn}
 use Rattle.handing.specs.Handed.{partCells, entryCells}
-
--- ---- a part
-
-pub part-inside : (n start len : ℕ) → start + len ≤ n → (start ∷ len ∷ []) ≡ partCells n start len
-part-inside n start len h = rw (le-leb (start + len) n h)
-
-pub part-outside : (n start len : ℕ) → n < start + len → (0 ∷ 0 ∷ []) ≡ partCells n start len
-part-outside n start len h = rw (lt-leb (start + len) n h)
 
 -- the start and length that the cells hand out are those of the bytes that `wire::part` hands out
 pub part-handed : (m : List ℕ) (start len : ℕ)
@@ -32,17 +22,8 @@ part-handed m start len = go (leb (start + len) (length m)) refl
     go true e = refl
     go false e = part-empty m ∙ part-none m 0 start len (leb-false (start + len) (length m) e)
 
--- ---- an entry
-
 -- .. and of an entry those of the bytes that `places::entry` hands out
 pub entry-handed : (m table : List ℕ) (i : ℕ)
     → partAt m (getD (entryCells (length m) table i) 0 0) (getD (entryCells (length m) table i) 1 0) ≡ entryIn m table i
 unfolding entryIn
 entry-handed m table i = part-handed m (getD table (2 * i) 0) (getD table (2 * i + 1) 0)
-
--- an entry past the table's end counts as 0 and 0
-pub entry-past : (n : ℕ) (table : List ℕ) (i : ℕ) (lent : List ℕ) → length table ≤ 2 * i → over (partCells n 0 0) lent ≡ over (entryCells n table i) lent
-entry-past n table i lent h =
-    let p = List·getD-eq-default table 0 {n = 2 * i} h in
-    let q = List·getD-eq-default table 0 {n = 2 * i + 1} (omega arith) in
-    rw (p, q)

@@ -9,6 +9,9 @@ use Rattle.handing.proofs.ntske_entry.Reads as ntske-entry
 use Rattle.handing.proofs.ntske_number.Reads as ntske-number
 use Rattle.handing.proofs.ntske_pair.Reads as ntske-pair
 use Rattle.handing.proofs.ntske_choose.Reads as ntske-choose
+use Rattle.handing.proofs.ntske_choose_protocol.Reads as ntske-choose-protocol
+use Rattle.handing.proofs.ntske_key_length.Reads as ntske-key-length
+use Rattle.handing.proofs.ntske_version.Reads as ntske-version
 
 pub ntske-part-same : (κs : _) (a : _) (r r′ : _) (e e′ : _) → ntske-part.Learnt κs a r e → ntske-part.Learnt κs a r′ e′ → (r ≡ r′) × (now (e .1 .1 .1 .0) ≡ now (e′ .1 .1 .1 .0))
 ntske-part-same κs a r r′ e e′ p q = gives-same p q
@@ -24,3 +27,12 @@ ntske-pair-same κs a r r′ e e′ p q = gives-same p q
 
 pub ntske-choose-same : (κs : _) (a : _) (r r′ : _) (e e′ : _) → ntske-choose.Learnt κs a r e → ntske-choose.Learnt κs a r′ e′ → (r ≡ r′) × (now (e .1 .1 .1 .1 .0) ≡ now (e′ .1 .1 .1 .1 .0))
 ntske-choose-same κs a r r′ e e′ p q = gives-same p q
+
+pub ntske-choose-protocol-same : (κs : _) (a : _) (r r′ : _) (e e′ : _) → ntske-choose-protocol.Learnt κs a r e → ntske-choose-protocol.Learnt κs a r′ e′ → (r ≡ r′) × (now (e .1 .1 .0) ≡ now (e′ .1 .1 .0))
+ntske-choose-protocol-same κs a r r′ e e′ p q = gives-same p q
+
+pub ntske-key-length-same : (κs : _) (a : _) (r r′ : _) (e e′ : _) → ntske-key-length.Learnt κs a r e → ntske-key-length.Learnt κs a r′ e′ → (r ≡ r′) × (now (e .1 .0) ≡ now (e′ .1 .0))
+ntske-key-length-same κs a r r′ e e′ p q = gives-same p q
+
+pub ntske-version-same : (κs : _) (a : _) (r r′ : _) (e e′ : _) → ntske-version.Learnt κs a r e → ntske-version.Learnt κs a r′ e′ → r ≡ r′
+ntske-version-same κs a r r′ e e′ p q = p ∙ sym q

@@ -1,11 +1,14 @@
--- What is handed out of a message and its lists, and a choice, as cells: 01, "The record" and "Choosing and replying".
+-- What is handed out of a message and its lists, a choice, and the length of a key, as cells: 01, "The record" and "Choosing and replying".
 use Prim.Native.Nat.{ℕ, _+_, _*_}
 use mathlib.Core.List.{List, [], _∷_}
 use mathlib.Core.Bool.{cond}
 use lib.ListN.{getD}
 use lib.Dec.{leb}
+use Rattle.nts.specs.Refusal.{code}
+use Rattle.nts.specs.Algorithm.{Described, known, unknown}
 use Rattle.record.specs.Entry as entry
 use Rattle.negotiation.specs.Negotiation as choice
+use Rattle.cells.specs.Cells.{unplaced, Given, cells, refuses}
 
 -- ---- a part, and an entry of a table
 
@@ -24,12 +27,23 @@ numberCells (entry.number n) = 1 ∷ n ∷ 0 ∷ []
 numberCells (entry.pair a n) = 1 ∷ a ∷ n ∷ []
 numberCells entry.outside = 0 ∷ 0 ∷ 0 ∷ []
 
--- ---- a choice: protocol and algorithm; a refusal leaves the cells
+-- ---- a choice: protocol and algorithm, or the protocol alone
 
-abbrev pub choiceNumber : choice.Told → ℕ
-choiceNumber (choice.chosen p a) = 0
-choiceNumber (choice.refused k b) = k
+abbrev pub choiceGiven : choice.Told → Given
+choiceGiven (choice.chosen p a) = cells (p ∷ a ∷ [])
+choiceGiven (choice.refused k b) = refuses (unplaced k b)
 
-abbrev pub choiceCells : choice.Told → List ℕ
-choiceCells (choice.chosen p a) = p ∷ a ∷ []
-choiceCells (choice.refused k b) = []
+abbrev pub protocolGiven : choice.Protocol → Given
+protocolGiven (choice.agreed p) = cells (p ∷ [])
+protocolGiven (choice.refusedWith k b) = refuses (unplaced k b)
+
+-- ---- the length of an algorithm's key: 5, with its number, for one whose length is not known
+
+abbrev pub keyGiven : ℕ → Described → Given
+keyGiven n (known m size) = cells (size ∷ [])
+keyGiven n unknown = refuses (unplaced 5 (code n))
+
+-- ---- the version: 1 in the third byte from the right for 1.x.y, x in the second, y in the first
+
+abbrev pub version : ℕ
+version = 0x000200

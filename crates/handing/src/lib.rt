@@ -1,29 +1,36 @@
-// The calls that hand out a part of a message, an entry of a table and an entry of a list, and choose, for a host in C or Rust.
-use cells::NO_ROOM;
+// The calls that hand out a part of a message, an entry of a table and an entry of a list, choose, and tell the length of a key, for a host in C or Rust.
 use negotiation::Choice;
+use negotiation::ProtocolChoice;
+use nts::AeadAlgorithm;
+use nts::Description;
+use nts::NtsError;
 use record::DescriptionAt;
 use record::Part;
 use record::ProtocolAt;
 ghost use mathlib.Core.Path.{_≡_};
-ghost use mathlib.Core.List.{[], _∷_};
-ghost use Prim.Native.Nat.{_≤_};
 ghost use lib.ListN.{length, getD};
 ghost use Rattle.wire.specs.Bytes.{partAt};
-ghost use Rattle.wire.specs.Over.{over};
+ghost use Rattle.nts.specs.Algorithm.{describe};
 ghost use Rattle.record.specs.Entry.{numberIn, pairIn};
 ghost use Rattle.negotiation.specs.Negotiation as choices;
-ghost use Rattle.cells.specs.Cells.{Gives};
-ghost use Rattle.handing.specs.Handed.{partCells, entryCells, numberCells, choiceNumber, choiceCells};
+ghost use Rattle.cells.specs.Cells.{cells, Gives};
+ghost use Rattle.handing.specs.Handed.{partCells, entryCells, numberCells, choiceGiven, protocolGiven, keyGiven, version};
+
+// The library's version: 1 in the third byte from the right for 1.x.y, x in the second, y in the first.
+const VERSION: u64 = 0x000200;
 
 // A part of a message as it is handed out. Answer, two cells: its start and length, 0 and 0 where it is not inside the message.
 #[no_mangle]
-pub extern "C" fn ntske_part(message: &[u8], start: usize, len: usize, answer: &mut [usize]) -> u32
-    ensures { λ r. ⌜ Gives 2 0 (partCells (length (now (message .entry))) start len) (now (answer .entry)) r (now (answer .exit)) ⌝ }
+pub extern "C" fn ntske_part(
+    message: &[u8],
+    start: usize,
+    len: usize,
+    answer: &mut [usize; 2],
+) -> u64
+    ensures { λ r. ⌜ Gives (cells (partCells (length (now (message .entry))) start len)) (now (answer .entry)) r (now (answer .exit)) ⌝ }
 {
-    if answer.len() < 2 {
-        return NO_ROOM;
-    }
-    put_part(message.len(), start, len, answer)
+    *answer = handed_out(message.len(), start, len);
+    0
 }
 
 // The name or cookie at an index of a table that a reader filled, as it is handed out: as a part.
@@ -32,22 +39,20 @@ pub extern "C" fn ntske_entry(
     message: &[u8],
     table: &[u16],
     index: usize,
-    answer: &mut [usize],
-) -> u32
-    ensures { λ r. ⌜ Gives 2 0 (entryCells (length (now (message .entry))) (now (table .entry)) index) (now (answer .entry)) r (now (answer .exit)) ⌝ }
+    answer: &mut [usize; 2],
+) -> u64
+    ensures { λ r. ⌜ Gives (cells (entryCells (length (now (message .entry))) (now (table .entry)) index)) (now (answer .entry)) r (now (answer .exit)) ⌝ }
 {
-    if answer.len() < 2 {
-        return NO_ROOM;
-    }
     if index < table.len() / 2 + 1 {
-        return put_part(
+        *answer = handed_out(
             message.len(),
             table_at(table, 2 * index),
             table_at(table, 2 * index + 1),
-            answer,
         );
+        return 0;
     }
-    put_part(message.len(), 0, 0, answer)
+    *answer = handed_out(message.len(), 0, 0);
+    0
 }
 
 // The number at an index of a list of numbers, which is a part of the message. Answer, three cells: whether it is there, the number, and 0.
@@ -57,18 +62,15 @@ pub extern "C" fn ntske_number(
     start: usize,
     len: usize,
     index: usize,
-    answer: &mut [usize],
-) -> u32
-    ensures { λ r. ⌜ Gives 3 0 (numberCells (numberIn (partAt (now (message .entry)) start len) index)) (now (answer .entry)) r (now (answer .exit)) ⌝ }
+    answer: &mut [usize; 3],
+) -> u64
+    ensures { λ r. ⌜ Gives (cells (numberCells (numberIn (partAt (now (message .entry)) start len) index))) (now (answer .entry)) r (now (answer .exit)) ⌝ }
 {
-    if answer.len() < 3 {
-        return NO_ROOM;
-    }
     let entry = record::protocol_at(message, Part { start, len }, index);
-    match entry {
-        ProtocolAt::Protocol(p) => put_three(1, p.0 as usize, 0, answer),
-        ProtocolAt::Nothing => put_three(0, 0, 0, answer),
-    }
+    *answer = match entry {
+        ProtocolAt::Protocol(p) => [1, p.0 as usize, 0],
+        ProtocolAt::Nothing => [0, 0, 0],
+    };
     0
 }
 
@@ -79,47 +81,83 @@ pub extern "C" fn ntske_pair(
     start: usize,
     len: usize,
     index: usize,
-    answer: &mut [usize],
-) -> u32
-    ensures { λ r. ⌜ Gives 3 0 (numberCells (pairIn (partAt (now (message .entry)) start len) index)) (now (answer .entry)) r (now (answer .exit)) ⌝ }
+    answer: &mut [usize; 3],
+) -> u64
+    ensures { λ r. ⌜ Gives (cells (numberCells (pairIn (partAt (now (message .entry)) start len) index))) (now (answer .entry)) r (now (answer .exit)) ⌝ }
 {
-    if answer.len() < 3 {
-        return NO_ROOM;
-    }
     let entry = record::description_at(message, Part { start, len }, index);
-    match entry {
-        DescriptionAt::Description(d) => {
-            put_three(1, d.id.0 as usize, d.keysize as usize, answer)
-        }
-        DescriptionAt::Nothing => put_three(0, 0, 0, answer),
-    }
+    *answer = match entry {
+        DescriptionAt::Description(d) => [1, d.id.0 as usize, d.keysize as usize],
+        DescriptionAt::Nothing => [0, 0, 0],
+    };
     0
 }
 
 // Chooses protocol and algorithm: of the client's lists, as bytes of its message, the first number that the server's own list holds. Answer, two
-// cells: the protocol and the algorithm; a refusal, 9, 13 or 14, changes no cell.
+// cells: the protocol and the algorithm. Refusals: 9, 13, 14.
 #[no_mangle]
 pub extern "C" fn ntske_choose(
     protocols: &[u8],
     algorithms: &[u8],
     own_protocols: &[u16],
     own_algorithms: &[u16],
-    answer: &mut [usize],
-) -> u32
-    ensures { λ r. ⌜ Gives 2 (choiceNumber (choices.choose (now (protocols .entry)) (now (algorithms .entry)) (now («own_protocols» .entry)) (now («own_algorithms» .entry))))
-        (choiceCells (choices.choose (now (protocols .entry)) (now (algorithms .entry)) (now («own_protocols» .entry)) (now («own_algorithms» .entry)))) (now (answer .entry)) r (now (answer .exit)) ⌝ }
+    answer: &mut [usize; 2],
+) -> u64
+    ensures { λ r. ⌜ Gives (choiceGiven (choices.choose (now (protocols .entry)) (now (algorithms .entry)) (now («own_protocols» .entry)) (now («own_algorithms» .entry))))
+        (now (answer .entry)) r (now (answer .exit)) ⌝ }
 {
-    if answer.len() < 2 {
-        return NO_ROOM;
-    }
     let choice = negotiation::choose(protocols, algorithms, own_protocols, own_algorithms);
     match choice {
         Choice::Chosen(x) => {
-            put_two(x.protocol.0 as usize, x.algorithm.0 as usize, answer);
+            *answer = [x.protocol.0 as usize, x.algorithm.0 as usize];
             0
         }
-        Choice::Refused(error) => error.number() as u32,
+        Choice::Refused(error) => cells::refused(error),
     }
+}
+
+// Chooses the protocol alone, which a reply without an algorithm names. Answer, one cell. Refusals: 9, 13.
+#[no_mangle]
+pub extern "C" fn ntske_choose_protocol(
+    protocols: &[u8],
+    own_protocols: &[u16],
+    answer: &mut [usize; 1],
+) -> u64
+    ensures { λ r. ⌜ Gives (protocolGiven (choices.chooseProtocol (now (protocols .entry)) (now («own_protocols» .entry)))) (now (answer .entry)) r (now (answer .exit)) ⌝ }
+{
+    let choice = negotiation::choose_protocol(protocols, own_protocols);
+    match choice {
+        ProtocolChoice::Chosen(p) => {
+            *answer = [p.0 as usize];
+            0
+        }
+        ProtocolChoice::Refused(error) => cells::refused(error),
+    }
+}
+
+// The length of an algorithm's key in bytes. Answer, one cell. Refusals: 5, with the algorithm's number.
+#[no_mangle]
+pub extern "C" fn ntske_key_length(algorithm: u16, answer: &mut [usize; 1]) -> u64
+    ensures { λ r. ⌜ Gives (keyGiven algorithm (describe algorithm)) (now (answer .entry)) r (now (answer .exit)) ⌝ }
+{
+    let description = AeadAlgorithm(algorithm).description();
+    match description {
+        Description::Known(x) => {
+            *answer = [x.keysize as usize];
+            0
+        }
+        Description::Unknown => {
+            cells::refused(NtsError::AeadNotSupported(AeadAlgorithm(algorithm)))
+        }
+    }
+}
+
+// The version of the library that was linked.
+#[no_mangle]
+pub extern "C" fn ntske_version() -> u64
+    ensures { λ r. ⌜ r ≡ version ⌝ }
+{
+    VERSION
 }
 
 // The cell of a table at an index, and 0 where there is none.
@@ -132,41 +170,15 @@ fn table_at(table: &[u16], i: usize) -> usize
     0
 }
 
-fn put_part(size: usize, start: usize, len: usize, answer: &mut [usize]) -> u32
-    requires { ⌜ 2 ≤ length (now answer) ⌝ }
-    ensures { λ r. ⌜ (r ≡ 0) × (now (answer .exit) ≡ over (partCells size start len) (now (answer .entry))) ⌝ }
-{
-    let part = handed_out(size, start, len);
-    put_two(part.start, part.len, answer);
-    0
-}
-
 // A part of so many bytes as it is handed out.
-fn handed_out(size: usize, start: usize, len: usize) -> Part
-    ensures { λ r. ⌜ (r .start ∷ r .len ∷ []) ≡ partCells size start len ⌝ }
+fn handed_out(size: usize, start: usize, len: usize) -> [usize; 2]
+    ensures { λ r. ⌜ r ≡ partCells size start len ⌝ }
 {
     if size < start {
-        return Part { start: 0, len: 0 };
+        return [0, 0];
     }
     if size - start < len {
-        return Part { start: 0, len: 0 };
+        return [0, 0];
     }
-    Part { start, len }
-}
-
-fn put_two(a: usize, b: usize, cells: &mut [usize])
-    requires { ⌜ 2 ≤ length (now cells) ⌝ }
-    ensures { λ _. ⌜ now (cells .exit) ≡ over (a ∷ b ∷ []) (now (cells .entry)) ⌝ }
-{
-    cells[0] = a;
-    cells[1] = b;
-}
-
-fn put_three(a: usize, b: usize, c: usize, cells: &mut [usize])
-    requires { ⌜ 3 ≤ length (now cells) ⌝ }
-    ensures { λ _. ⌜ now (cells .exit) ≡ over (a ∷ b ∷ c ∷ []) (now (cells .entry)) ⌝ }
-{
-    cells[0] = a;
-    cells[1] = b;
-    cells[2] = c;
+    [start, len]
 }

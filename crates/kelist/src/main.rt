@@ -1,4 +1,6 @@
 // Lists the records of a message on standard input, and what the request reader answers for it.
+use record::ByteCount;
+
 // The longest message that is read; what follows is cut off.
 const LIMIT: u16 = 65535;
 
@@ -6,8 +8,11 @@ const LIMIT: u16 = 65535;
 const NAMES: usize = 1024;
 
 fn run(message: &[u8], out: &mut [u8]) {
-    let end = listing::list(message, LIMIT, NAMES, out);
-    io::write_all(1, &out[0..end]);
+    let count = listing::list(message, LIMIT, NAMES, out);
+    let ByteCount::Bytes(end) = count else {
+        return;
+    };
+    io::write_all(1, wire::part(out, 0, end));
 }
 
 fn main() {

@@ -2,8 +2,8 @@
 -- Assumes nothing.
 use mathlib.Core.Path.{_≡_}
 use denote.Ref.{now}
-use Rattle.wire.proofs.Over.{tried-same}
+use Rattle.layout.proofs.Apart.{wrote-same}
 use Rattle.listing.proofs.list.Reads as list
 
 pub list-same : (κs : _) (a : _) (r r′ : _) (e e′ : _) → list.Learnt κs a r e → list.Learnt κs a r′ e′ → (r ≡ r′) × (now (e .1 .1 .1 .0) ≡ now (e′ .1 .1 .1 .0))
-list-same κs a r r′ e e′ p q = tried-same p q
+list-same κs a r r′ e e′ p q = wrote-same p q

@@ -1,15 +1,19 @@
 -- The whole listing: heading, lines and last line, and whether they fit.
 -- Assumes nothing.
-use mathlib.Core.Path.{_≡_, sym, ap, _∙_}
+use mathlib.Core.Path.{_≡_, refl, sym, ap, _∙_}
 use mathlib.Core.Bool.{true, false}
 use mathlib.Core.List.{List, [], _∷_, _++_, append-assoc}
 use Prim.Native.Nat.{ℕ, _+_, _-_, _<_, _≤_}
 use native.Mathlib.Omega.{arith}
-use borrow.Author.Tests.{leb-true, leb-false}
+use borrow.Author.Tests.{leb-true, leb-false, lt-ltb, le-ltb}
 use lib.Dec.{leb}
 use lib.ListN.{length, take, length-append}
-use Rattle.wire.specs.Over.{Put, Tried}
-use Rattle.wire.proofs.Over.{put-as, tried-not, tried-put}
+use Rattle.wire.specs.Over.{Put}
+use Rattle.wire.proofs.Over.{put-as}
+use Rattle.nts.specs.declared.NtsError.{NtsError}
+use Rattle.layout.specs.Write.{bytes, fitted, leftBy, Wrote}
+use Rattle.layout.specs.declared.ByteCount.{ByteCount}
+use Rattle.layout.specs.declared.ByteCount.the-variants as count
 use Rattle.request.specs.Request.{Told, toldAnswer, Judges}
 use Rattle.request.specs.declared.Judged.{Judged}
 use Rattle.listing.specs.Listing.{newline, heading, answerText, listing}
@@ -46,17 +50,26 @@ module _ (m : List ℕ) (n room : ℕ) (s : List ℕ) (cut : s ≡ take n m) (x 
 
   -- z′ is the array in which the last line was made, i its length
   module _ (o : List ℕ) {k i : ℕ} {z z′ : List ℕ} (p : PutMost k (answerText (toldAnswer (x .answer)) ++ (newline ∷ [])) z i z′) where
-    pub list-short : length o < 20 + i → Tried (length (listing m n room)) (listing m n room) o 0 o
-    list-short h = tried-not (omega (arith, long, p .put .count))
+    abbrev Answers : ByteCount → List ℕ → Type 0
+    Answers r o′ = Wrote (fitted (length o) (bytes (length (listing m n room)))) (listing m n room) o r o′
 
-    pub list-long : 20 + i ≤ length o → false ≡ leb (length lines) (length o - 20 - i) → Tried (length (listing m n room)) (listing m n room) o 0 o
-    list-long h e = tried-not (omega (arith, long, p .put .count, leb-false (length lines) (length o - 20 - i) (sym e)))
+    no-room : length o < length (listing m n room) → Answers (count.Refused NtsError.OutputTooShort) o
+    unfolding fitted leftBy
+    no-room h = rw (lt-ltb (length o) (length (listing m n room)) h) (record { says = refl; left = refl })
+
+    pub list-short : length o < 20 + i → Answers (count.Refused NtsError.OutputTooShort) o
+    list-short h = no-room (omega (arith, long, p .put .count))
+
+    pub list-long : 20 + i ≤ length o → false ≡ leb (length lines) (length o - 20 - i) → Answers (count.Refused NtsError.OutputTooShort) o
+    list-long h e = no-room (omega (arith, long, p .put .count, leb-false (length lines) (length o - 20 - i) (sym e)))
 
     module _ (h : 20 + i ≤ length o) (e : true ≡ leb (length lines) (length o - 20 - i)) where
       pub list-room : 20 + length lines + length (take (i - 0) z′) ≤ length o
       list-room = rw (made p) (omega (arith, p .put .count, leb-true (length lines) (length o - 20 - i) (sym e)))
 
-      pub list-put : {r : ℕ} {o′ : List ℕ} → Put (20 + length lines + length (take (i - 0) z′)) ((heading ++ lines) ++ take (i - 0) z′) o r o′ → Tried (length (listing m n room)) (listing m n room) o r o′
+      pub list-put : {r : ℕ} {o′ : List ℕ} → Put (20 + length lines + length (take (i - 0) z′)) ((heading ++ lines) ++ take (i - 0) z′) o r o′ → Answers (count.Bytes r) o′
+      unfolding fitted leftBy
       list-put q =
           let fits : length (listing m n room) ≤ length o = omega (arith, long, list-room, ap length (made p)) in
-          tried-put fits (put-as (rw (made p) at q) (sym long) parts)
+          let whole = put-as (rw (made p) at q) (sym long) parts in
+          rw (le-ltb (length o) (length (listing m n room)) fits) (record { says = ap bytes (whole .count); left = whole .left })

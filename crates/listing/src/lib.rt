@@ -1,6 +1,8 @@
 // The listing of a message: a line for each record that reads whole, and one for what the request reader answered.
 use nts::Code;
+use nts::NtsError;
 use nts::Refusal;
+use record::ByteCount;
 use record::Glance;
 use record::Looked;
 use record::NtsRecord;
@@ -13,6 +15,7 @@ ghost use lib.ListN.{length};
 ghost use lib.Dec.{leb};
 ghost use Rattle.wire.specs.Over.{Put, Tried};
 ghost use Rattle.nts.specs.Refusal.{toldCode, toldRefusal};
+ghost use Rattle.layout.specs.Write.{bytes, fitted, Wrote};
 ghost use Rattle.request.specs.Request.{refusedWith, toldAnswer};
 ghost use Rattle.listing.specs.Listing.{space, newline, digits, heading, mark, protocolsText, algorithmsText, deniedText, besideText, answerText, listing};
 ghost use Rattle.listing.specs.Code.{PutMost, rowLine, rowText, stopFrom, linesFrom, LineAt};
@@ -32,9 +35,10 @@ const LINE: usize = 65;
 const LAST_LINE: usize = 112;
 
 // The whole listing of a message read as if it were cut after `limit` bytes, and of what the request reader answers for it with room for so many
-// names: how many bytes that is, or 0 and nothing written where there is no room. The lines are of the records that the reader's walk met.
-pub fn list(message: &[u8], limit: u16, room: usize, out: &mut [u8]) -> usize
-    ensures { λ r. ⌜ Tried (length (listing (now (message .entry)) limit room)) (listing (now (message .entry)) limit room) (now (out .entry)) r (now (out .exit)) ⌝ }
+// names: how many bytes that is, or 10 and nothing written where there is no room. The lines are of the records that the reader's walk met.
+pub fn list(message: &[u8], limit: u16, room: usize, out: &mut [u8]) -> ByteCount
+    ensures { λ r. ⌜ Wrote (fitted (length (now (out .entry))) (bytes (length (listing (now (message .entry)) limit room)))) (listing (now (message .entry)) limit room)
+        (now (out .entry)) r (now (out .exit)) ⌝ }
 {
     let judged = Request::judge(message, limit, room);
     let answer = judged.answer;
@@ -42,13 +46,13 @@ pub fn list(message: &[u8], limit: u16, room: usize, out: &mut [u8]) -> usize
     let mut last = [0u8; LAST_LINE];
     let n = put_last(answer, &mut last);
     if out.len() < HEADING + n {
-        return 0;
+        return ByteCount::Refused(NtsError::OutputTooShort);
     }
     let cut = walk::cut_at(message, limit);
     if lines_fit(cut, place, out.len() - HEADING - n) {
-        return put_all(cut, place, &last[0..n], out);
+        return ByteCount::Bytes(put_all(cut, place, &last[0..n], out));
     }
-    0
+    ByteCount::Refused(NtsError::OutputTooShort)
 }
 
 // Heading, records and last line, into an output that has room for them.

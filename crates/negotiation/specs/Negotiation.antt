@@ -8,6 +8,8 @@ use Rattle.wire.specs.Bytes.{numberAt}
 use Rattle.nts.specs.Refusal.{numberOf, Beside, nothing, besideOf}
 use Rattle.negotiation.specs.declared.Choice.{Choice}
 use Rattle.negotiation.specs.declared.Choice.the-variants as choice
+use Rattle.negotiation.specs.declared.ProtocolChoice.{ProtocolChoice}
+use Rattle.negotiation.specs.declared.ProtocolChoice.the-variants as protocol
 
 -- a client's list is bytes, two a number, high byte first
 abbrev pub numbersOf : List ℕ → List ℕ
@@ -60,3 +62,21 @@ choose protocols algorithms ownProtocols ownAlgorithms =
 abbrev pub toldChoice : Choice → Told
 toldChoice (choice.Chosen x) = chosen (x .protocol .0) (x .algorithm .0)
 toldChoice (choice.Refused e) = refused (numberOf e) (besideOf e)
+
+-- ---- the protocol alone, which a reply without an algorithm names
+
+pub data Protocol : Type 0 where
+  agreed : ℕ → Protocol
+  refusedWith : ℕ → Beside → Protocol
+
+abbrev pub protocolFrom : Common → Protocol
+protocolFrom none = refusedWith 13 nothing
+protocolFrom (common p) = agreed p
+
+-- after 9 for a client's list of an odd byte length
+unfoldable pub chooseProtocol : List ℕ → List ℕ → Protocol
+chooseProtocol protocols own = cond (isOdd protocols) (refusedWith 9 nothing) (protocolFrom (firstCommon (numbersOf protocols) own))
+
+abbrev pub toldProtocol : ProtocolChoice → Protocol
+toldProtocol (protocol.Chosen p) = agreed (p .0)
+toldProtocol (protocol.Refused e) = refusedWith (numberOf e) (besideOf e)

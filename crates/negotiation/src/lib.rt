@@ -3,7 +3,7 @@ use nts::AeadAlgorithm;
 use nts::NextProtocol;
 use nts::NtsError;
 ghost use mathlib.Core.Path.{_≡_};
-ghost use Rattle.negotiation.specs.Negotiation.{numbersOf, isOdd, holds, firstCommon, choose, toldChoice};
+ghost use Rattle.negotiation.specs.Negotiation.{numbersOf, isOdd, holds, firstCommon, withAlgorithm, choose, toldChoice, chooseProtocol, toldProtocol};
 ghost use Rattle.negotiation.specs.Code.{toldFirst};
 
 pub struct Chosen {
@@ -16,8 +16,14 @@ pub enum Choice {
     Refused(NtsError),
 }
 
+// The protocol alone.
+pub enum ProtocolChoice {
+    Chosen(NextProtocol),
+    Refused(NtsError),
+}
+
 // The first number that two lists have in common, if any.
-pub enum First {
+enum First {
     Number(u16),
     Nothing,
 }
@@ -33,24 +39,42 @@ pub fn choose(
 ) -> Choice
     ensures { λ r. ⌜ toldChoice r ≡ choose (now (protocols .entry)) (now (algorithms .entry)) (now («own_protocols» .entry)) (now («own_algorithms» .entry)) ⌝ }
 {
-    if is_odd(protocols) {
-        return Choice::Refused(NtsError::InvalidValue);
-    }
     if is_odd(algorithms) {
         return Choice::Refused(NtsError::InvalidValue);
     }
-    let protocol = first_common(protocols, own_protocols);
-    let First::Number(p) = protocol else {
-        return Choice::Refused(NtsError::NoOverlappingProtocol);
-    };
-    let algorithm = first_common(algorithms, own_algorithms);
-    let First::Number(a) = algorithm else {
-        return Choice::Refused(NtsError::NoOverlappingAlgorithm);
-    };
-    Choice::Chosen(Chosen {
-        protocol: NextProtocol(p),
-        algorithm: AeadAlgorithm(a),
-    })
+    let choice = choose_protocol(protocols, own_protocols);
+    match choice {
+        ProtocolChoice::Chosen(protocol) => with_algorithm(protocol, algorithms, own_algorithms),
+        ProtocolChoice::Refused(error) => Choice::Refused(error),
+    }
+}
+
+// The protocol alone, which a reply without an algorithm names: 9 for a list of an odd byte length, then 13.
+pub fn choose_protocol(protocols: &[u8], own: &[u16]) -> ProtocolChoice
+    ensures { λ r. ⌜ toldProtocol r ≡ chooseProtocol (now (protocols .entry)) (now (own .entry)) ⌝ }
+{
+    if is_odd(protocols) {
+        return ProtocolChoice::Refused(NtsError::InvalidValue);
+    }
+    let first = first_common(protocols, own);
+    match first {
+        First::Number(n) => ProtocolChoice::Chosen(NextProtocol(n)),
+        First::Nothing => ProtocolChoice::Refused(NtsError::NoOverlappingProtocol),
+    }
+}
+
+// The protocol is agreed on: then the algorithm.
+fn with_algorithm(protocol: NextProtocol, algorithms: &[u8], own: &[u16]) -> Choice
+    ensures { λ r. ⌜ toldChoice r ≡ withAlgorithm (protocol .0) (firstCommon (numbersOf (now (algorithms .entry))) (now (own .entry))) ⌝ }
+{
+    let first = first_common(algorithms, own);
+    match first {
+        First::Number(n) => Choice::Chosen(Chosen {
+            protocol,
+            algorithm: AeadAlgorithm(n),
+        }),
+        First::Nothing => Choice::Refused(NtsError::NoOverlappingAlgorithm),
+    }
 }
 
 fn is_odd(list: &[u8]) -> bool

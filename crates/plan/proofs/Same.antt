@@ -14,6 +14,7 @@ use Rattle.plan.proofs.Plan.set_keep_alive.Reads as set-keep-alive
 use Rattle.plan.proofs.Plan.clear_keep_alive.Reads as clear-keep-alive
 use Rattle.plan.proofs.Plan.append.Reads as append
 use Rattle.plan.proofs.Plan.length.Reads as length
+use Rattle.plan.proofs.append_denied.Reads as append-denied
 use Rattle.plan.proofs.walk_tray.Reads as walk-tray
 
 pub Plan-new-same : (κs : _) (a : _) (r r′ : _) (e e′ : _) → new.Learnt κs a r e → new.Learnt κs a r′ e′ → r ≡ r′
@@ -43,6 +44,9 @@ Plan-append-same κs a r r′ e e′ p q = (appended-apart r r′ (p .says ∙ s
 
 pub Plan-length-same : (κs : _) (a : _) (r r′ : _) (e e′ : _) → length.Learnt κs a r e → length.Learnt κs a r′ e′ → r ≡ r′
 Plan-length-same κs a r r′ e e′ p q = count-apart r r′ (p ∙ sym q)
+
+pub append-denied-same : (κs : _) (a : _) (r r′ : _) (e e′ : _) → append-denied.Learnt κs a r e → append-denied.Learnt κs a r′ e′ → (r ≡ r′) × (now (e .1 .0) ≡ now (e′ .1 .0))
+append-denied-same κs a r r′ e e′ p q = (count-apart r r′ (p .says ∙ sym (q .says)), p .left ∙ sym (q .left))
 
 pub walk-tray-same : (κs : _) (a : _) (r r′ : _) (e e′ : _) → walk-tray.Learnt κs a r e → walk-tray.Learnt κs a r′ e′ → r ≡ r′
 walk-tray-same κs a r r′ e e′ p q = tally-apart r r′ (p ∙ sym q)

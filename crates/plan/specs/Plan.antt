@@ -2,16 +2,15 @@
 -- cookie tray; its calls, and its written length.
 use Prim.Native.Nat.{ℕ, _+_, _*_}
 use mathlib.Core.Path.{_≡_}
-use mathlib.Core.List.{List, _++_}
+use mathlib.Core.List.{List}
 use mathlib.Core.Bool.{Bool, cond, false}
-use lib.ListN.{length, take, drop}
+use lib.ListN.{length}
 use lib.Dec.{leb, ltb}
-use Rattle.wire.specs.Over.{over}
 use Rattle.nts.specs.Refusal.{numberOf, Beside, nothing, besideOf}
 use Rattle.nts.specs.declared.NextProtocol.{NextProtocol}
 use Rattle.nts.specs.declared.AeadAlgorithm.{AeadAlgorithm}
 use Rattle.layout.specs.Write.{Count, bytes, refused}
-use Rattle.plan.specs.Tray.{Fields, broken, fields, cookiesIn, fieldBytes, bytesIn}
+use Rattle.plan.specs.Tray.{Fields, broken, fields, cookiesIn, fieldBytes, behind, bytesIn}
 use Rattle.plan.specs.declared.Plan.{Plan}
 use Rattle.plan.specs.declared.Port.{Port}
 use Rattle.plan.specs.declared.Port.the-variants as port
@@ -89,7 +88,7 @@ append x cookie tray = appendBy x (length tray) (length cookie) (cookiesIn (x .u
 -- the tray afterwards: only the bytes of the field that was added change
 abbrev pub trayAfter : Told → ℕ → List ℕ → List ℕ → List ℕ
 trayAfter (refusedWith k b) used cookie tray = tray
-trayAfter (grown x) used cookie tray = take used tray ++ over (fieldBytes 1 cookie) (drop used tray)
+trayAfter (grown x) used cookie tray = behind used (fieldBytes 1 cookie) tray
 
 -- what each case of the answer says
 abbrev pub toldAppended : Appended → Told

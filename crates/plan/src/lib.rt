@@ -11,7 +11,7 @@ ghost use mathlib.Core.List.{[], _∷_};
 ghost use lib.ListN.{length};
 ghost use Rattle.wire.specs.Over.{bytesOf, Put};
 ghost use Rattle.layout.specs.Write.{toldCount};
-ghost use Rattle.plan.specs.Tray.{fieldsIn, cookiesIn, fieldBytes};
+ghost use Rattle.plan.specs.Tray.{fieldsIn, cookiesIn, fieldBytes, roomFor, grownTray, Denies};
 ghost use Rattle.plan.specs.Code.{counted, toldTally};
 ghost use Rattle.plan.specs.Plan.{started, withPort, withName, withKeepAlive, nameRecord, portRecord, keepAliveRecord, planLength, Appends};
 
@@ -133,14 +133,15 @@ impl Plan {
         if Plan::COOKIES <= whole.fields {
             return Appended::Refused(NtsError::TableFull);
         }
-        let size = Plan::FIELD_HEADER + cookie.len();
-        if tray.len() - used < size {
-            return Appended::Refused(NtsError::OutputTooShort);
+        let count = append_field(Plan::COOKIE, cookie, tray, used);
+        match count {
+            ByteCount::Bytes(n) => {
+                let mut plan = self;
+                plan.used = n;
+                Appended::Plan(plan)
+            }
+            ByteCount::Refused(error) => Appended::Refused(error),
         }
-        let written = put_field(Plan::COOKIE, cookie, &mut tray[used..]);
-        let mut plan = self;
-        plan.used = used + written;
-        Appended::Plan(plan)
     }
 
     // The reply's written length, found by a walk over the tray: 9 for a broken one, and nothing else.
@@ -192,6 +193,24 @@ fn with_name(plan: Plan, name: NameLength) -> Plan
     }
 }
 
+// A denied name more in a request's tray, behind the used part: how many bytes are used then, or 9 for a broken tray and for a name that is not UTF-8, then 8, then
+// 10 for no room. Only the bytes of the field that is added change.
+pub fn append_denied(name: &[u8], tray: &mut [u8], used: usize) -> ByteCount
+    ensures { λ r. ⌜ Denies used (now (name .entry)) (now (tray .entry)) r (now (tray .exit)) ⌝ }
+{
+    let tally = walk_tray(Plan::DENIED, tray, used);
+    let Tally::Whole(_) = tally else {
+        return ByteCount::Refused(NtsError::InvalidValue);
+    };
+    if utf8::is_utf8(name) {
+        if LONGEST < name.len() {
+            return ByteCount::Refused(NtsError::InvalidInput);
+        }
+        return append_field(Plan::DENIED, name, tray, used);
+    }
+    ByteCount::Refused(NtsError::InvalidValue)
+}
+
 // A walk over the used part of a tray whose fields all have the tag.
 pub fn walk_tray(tag: u8, tray: &[u8], used: usize) -> Tally
     ensures { λ r. ⌜ toldTally r ≡ counted (fieldsIn tag used (now (tray .entry))) ⌝ }
@@ -232,6 +251,20 @@ fn cookies(tray: &[u8], used: usize) -> Tally
         return Tally::Broken;
     }
     tally
+}
+
+// A field behind the used part: how many bytes are used then, or 10 for no room.
+fn append_field(tag: u8, body: &[u8], tray: &mut [u8], used: usize) -> ByteCount
+    requires { ⌜ (used ≤ length (now tray)) × (length (now body) ≤ 65535) ⌝ }
+    ensures { λ r. ⌜ (toldCount r ≡ roomFor (length (now (tray .entry))) used (length (now (body .entry))))
+        × (now (tray .exit) ≡ grownTray (roomFor (length (now (tray .entry))) used (length (now (body .entry)))) tag used (now (body .entry)) (now (tray .entry))) ⌝ }
+{
+    let size = Plan::FIELD_HEADER + body.len();
+    if tray.len() - used < size {
+        return ByteCount::Refused(NtsError::OutputTooShort);
+    }
+    let written = put_field(tag, body, &mut tray[used..]);
+    ByteCount::Bytes(used + written)
 }
 
 // A field at the front of a tray's rest that has room for it: how many bytes that is.

@@ -1,11 +1,9 @@
--- A plan as eight cells that a host keeps, and the calls on it: 01, "Choosing and replying".
+-- A plan as eight cells that a host keeps, and the calls on it: 01, "Choosing and replying". Cells that hold no plan are 9.
 use Prim.Native.Nat.{ℕ}
 use mathlib.Core.Path.{_≡_}
 use mathlib.Core.List.{List, [], _∷_}
 use mathlib.Core.Bool.{Bool, cond, _&&_}
-use lib.ListN.{length}
 use lib.Dec.{leb, eqb}
-use Rattle.wire.specs.Over.{over}
 use Rattle.nts.specs.Refusal.{nothing}
 use Rattle.layout.specs.Write.{Count, refused, fitted}
 use Rattle.plan.specs.Tray.{cookiesIn}
@@ -16,7 +14,7 @@ use Rattle.plan.specs.declared.Port.the-variants as port
 use Rattle.plan.specs.declared.NameLength.{NameLength}
 use Rattle.plan.specs.declared.NameLength.the-variants as name
 use Rattle.messages.specs.Messages.{bodiesOf, replyChecked, replyRecords, messageOf}
-use Rattle.cells.specs.Cells.{flag, cell}
+use Rattle.cells.specs.Cells.{unplaced, Given, cells, refuses, Gives, flag, cell}
 
 -- ---- the cells
 
@@ -50,14 +48,13 @@ pub data Held : Type 0 where
 -- sixteen bits for a number, and 0 or 1 for a flag; of a port or a length that is not planned, any sixteen bits
 unfoldable pub isPlan : List ℕ → Bool
 isPlan c =
-    leb 8 (length c)
-    && (leb (cell c 0) 65535
-    && (leb (cell c 1) 65535
-    && (leb (cell c 2) 1
-    && (leb (cell c 3) 65535
-    && (leb (cell c 4) 1
-    && (leb (cell c 5) 65535
-    && leb (cell c 6) 1))))))
+    leb (cell c 0) 65535
+    && leb (cell c 1) 65535
+    && leb (cell c 2) 1
+    && leb (cell c 3) 65535
+    && leb (cell c 4) 1
+    && leb (cell c 5) 65535
+    && leb (cell c 6) 1
 
 abbrev pub planOf : List ℕ → Plan
 planOf c = record {
@@ -72,29 +69,18 @@ planOf c = record {
 unfoldable pub planIn : List ℕ → Held
 planIn c = cond (isPlan c) (held (planOf c)) noPlan
 
--- ---- set and clear: 9 for cells that hold no plan; the cells then stay
+-- ---- set and clear
 
-abbrev pub heldNumber : Held → ℕ
-heldNumber noPlan = 9
-heldNumber (held x) = 0
-
-abbrev pub changedCells : (Plan → Plan) → Held → List ℕ
-changedCells f noPlan = []
-changedCells f (held x) = planCells (f x)
-
-pub record Changes (f : Plan → Plan) (lent : List ℕ) (r : ℕ) (after : List ℕ) : Type 0 where
-  pub says : r ≡ heldNumber (planIn lent)
-  pub left : after ≡ over (changedCells f (planIn lent)) lent
+-- all eight cells are put; the port or the length that is not planned is 0 then
+abbrev pub changed : (Plan → Plan) → Held → Given
+changed f noPlan = refuses (unplaced 9 nothing)
+changed f (held x) = cells (planCells (f x))
 
 -- ---- a cookie appended
 
-abbrev pub toldNumber : plan.Told → ℕ
-toldNumber (plan.grown x) = 0
-toldNumber (plan.refusedWith k b) = k
-
-abbrev pub toldCells : plan.Told → List ℕ
-toldCells (plan.grown x) = planCells x
-toldCells (plan.refusedWith k b) = []
+abbrev pub grownGiven : plan.Told → Given
+grownGiven (plan.grown x) = cells (planCells x)
+grownGiven (plan.refusedWith k b) = refuses (unplaced k b)
 
 abbrev pub appended : Held → List ℕ → List ℕ → plan.Told
 appended noPlan cookie tray = plan.refusedWith 9 nothing
@@ -105,8 +91,7 @@ usedIn noPlan = 0
 usedIn (held x) = x .used
 
 pub record AppendsTo (lent cookie tray : List ℕ) (r : ℕ) (after tray′ : List ℕ) : Type 0 where
-  pub says : r ≡ toldNumber (appended (planIn lent) cookie tray)
-  pub cells : after ≡ over (toldCells (appended (planIn lent) cookie tray)) lent
+  pub gives : Gives (grownGiven (appended (planIn lent) cookie tray)) lent r after
   pub left : tray′ ≡ plan.trayAfter (appended (planIn lent) cookie tray) (usedIn (planIn lent)) cookie tray
 
 -- ---- the plan's length, and the reply

@@ -1,148 +1,120 @@
 // The calls of a reply plan, its length and its reply, for a host in C or Rust, which keeps the plan as eight cells: protocol, algorithm, whether there is a
 // port and its number, whether the server is named and the name's length, keep-alive, and the used length of the tray of cookies. Cells that hold no plan
 // are 9.
-use cells::NO_ROOM;
-use cells::NO_VALUE;
 use nts::AeadAlgorithm;
 use nts::NextProtocol;
+use nts::NtsError;
 use plan::Appended;
 use plan::NameLength;
 use plan::Plan;
 use plan::Port;
 ghost use mathlib.Core.Path.{_≡_};
 ghost use mathlib.Core.Bool.{true, false, cond};
-ghost use Prim.Native.Nat.{_≤_};
 ghost use lib.ListN.{length};
 ghost use lib.Dec.{eqb};
-ghost use Rattle.wire.specs.Over.{over};
 ghost use Rattle.plan.specs.Plan as plans;
 ghost use Rattle.plan.specs.declared.Port.the-variants as ports;
 ghost use Rattle.plan.specs.declared.NameLength.the-variants as names;
-ghost use Rattle.cells.specs.Cells.{countNumber, countCells, Gives, Writes};
-ghost use Rattle.planning.specs.Planned.{portThere, portNumber, nameThere, nameNumber, planCells, isPlan, planIn, Changes, toldNumber, toldCells, AppendsTo, plannedLength, plannedReply, plannedBytes};
-ghost use Rattle.planning.specs.Code.{toldHeld};
-
-// How many cells a plan has.
-const PLAN: usize = 8;
+ghost use Rattle.cells.specs.Cells.{cells, counted, Gives, Writes};
+ghost use Rattle.planning.specs.Planned.{portThere, portNumber, nameThere, nameNumber, planCells, isPlan, planIn, changed, AppendsTo, plannedLength, plannedReply, plannedBytes};
+ghost use Rattle.planning.specs.Code.{toldHeld, changedBy};
 
 // The plan that cells hold.
-pub enum Held {
+enum Held {
     Plan(Plan),
     None,
 }
 
-// Starts a plan: 10 where fewer than eight cells are lent.
+// What a call may change in a plan.
+enum Change {
+    SetPort(u16),
+    ClearPort,
+    SetNameLength(u16),
+    ClearNameLength,
+    SetKeepAlive,
+    ClearKeepAlive,
+}
+
+// Starts a plan.
 #[no_mangle]
-pub extern "C" fn ntske_plan_new(protocol: u16, algorithm: u16, plan: &mut [usize]) -> u32
-    ensures { λ r. ⌜ Gives 8 0 (planCells (plans.started (record { 0 = protocol }) (record { 0 = algorithm }))) (now (plan .entry)) r (now (plan .exit)) ⌝ }
+pub extern "C" fn ntske_plan_new(protocol: u16, algorithm: u16, plan: &mut [usize; 8]) -> u64
+    ensures { λ r. ⌜ Gives (cells (planCells (plans.started (record { 0 = protocol }) (record { 0 = algorithm })))) (now (plan .entry)) r (now (plan .exit)) ⌝ }
 {
-    if plan.len() < PLAN {
-        return NO_ROOM;
-    }
-    put_plan(
-        Plan::new(NextProtocol(protocol), AeadAlgorithm(algorithm)),
-        plan,
-    );
+    *plan = plan_cells(Plan::new(NextProtocol(protocol), AeadAlgorithm(algorithm)));
     0
 }
 
+// Set and clear: 9 for cells that hold no plan.
 #[no_mangle]
-pub extern "C" fn ntske_plan_set_port(plan: &mut [usize], port: u16) -> u32
-    ensures { λ r. ⌜ Changes (λ x. plans.withPort x (ports.Number port)) (now (plan .entry)) r (now (plan .exit)) ⌝ }
+pub extern "C" fn ntske_plan_set_port(plan: &mut [usize; 8], port: u16) -> u64
+    ensures { λ r. ⌜ Gives (changed (λ x. plans.withPort x (ports.Number port)) (planIn (now (plan .entry)))) (now (plan .entry)) r (now (plan .exit)) ⌝ }
 {
-    let held = plan_in(plan);
-    let Held::Plan(x) = held else {
-        return NO_VALUE;
-    };
-    put_plan(x.set_port(port), plan);
-    0
+    alter(plan, Change::SetPort(port))
 }
 
 #[no_mangle]
-pub extern "C" fn ntske_plan_clear_port(plan: &mut [usize]) -> u32
-    ensures { λ r. ⌜ Changes (λ x. plans.withPort x ports.None) (now (plan .entry)) r (now (plan .exit)) ⌝ }
+pub extern "C" fn ntske_plan_clear_port(plan: &mut [usize; 8]) -> u64
+    ensures { λ r. ⌜ Gives (changed (λ x. plans.withPort x ports.None) (planIn (now (plan .entry)))) (now (plan .entry)) r (now (plan .exit)) ⌝ }
 {
-    let held = plan_in(plan);
-    let Held::Plan(x) = held else {
-        return NO_VALUE;
-    };
-    put_plan(x.clear_port(), plan);
-    0
+    alter(plan, Change::ClearPort)
 }
 
 #[no_mangle]
-pub extern "C" fn ntske_plan_set_name_length(plan: &mut [usize], length: u16) -> u32
-    ensures { λ r. ⌜ Changes (λ x. plans.withName x (names.Bytes length)) (now (plan .entry)) r (now (plan .exit)) ⌝ }
+pub extern "C" fn ntske_plan_set_name_length(plan: &mut [usize; 8], length: u16) -> u64
+    ensures { λ r. ⌜ Gives (changed (λ x. plans.withName x (names.Bytes length)) (planIn (now (plan .entry)))) (now (plan .entry)) r (now (plan .exit)) ⌝ }
 {
-    let held = plan_in(plan);
-    let Held::Plan(x) = held else {
-        return NO_VALUE;
-    };
-    put_plan(x.set_name_length(length), plan);
-    0
+    alter(plan, Change::SetNameLength(length))
 }
 
 #[no_mangle]
-pub extern "C" fn ntske_plan_clear_name_length(plan: &mut [usize]) -> u32
-    ensures { λ r. ⌜ Changes (λ x. plans.withName x names.None) (now (plan .entry)) r (now (plan .exit)) ⌝ }
+pub extern "C" fn ntske_plan_clear_name_length(plan: &mut [usize; 8]) -> u64
+    ensures { λ r. ⌜ Gives (changed (λ x. plans.withName x names.None) (planIn (now (plan .entry)))) (now (plan .entry)) r (now (plan .exit)) ⌝ }
 {
-    let held = plan_in(plan);
-    let Held::Plan(x) = held else {
-        return NO_VALUE;
-    };
-    put_plan(x.clear_name_length(), plan);
-    0
+    alter(plan, Change::ClearNameLength)
 }
 
 #[no_mangle]
-pub extern "C" fn ntske_plan_set_keep_alive(plan: &mut [usize]) -> u32
-    ensures { λ r. ⌜ Changes (λ x. plans.withKeepAlive x true) (now (plan .entry)) r (now (plan .exit)) ⌝ }
+pub extern "C" fn ntske_plan_set_keep_alive(plan: &mut [usize; 8]) -> u64
+    ensures { λ r. ⌜ Gives (changed (λ x. plans.withKeepAlive x true) (planIn (now (plan .entry)))) (now (plan .entry)) r (now (plan .exit)) ⌝ }
 {
-    let held = plan_in(plan);
-    let Held::Plan(x) = held else {
-        return NO_VALUE;
-    };
-    put_plan(x.set_keep_alive(), plan);
-    0
+    alter(plan, Change::SetKeepAlive)
 }
 
 #[no_mangle]
-pub extern "C" fn ntske_plan_clear_keep_alive(plan: &mut [usize]) -> u32
-    ensures { λ r. ⌜ Changes (λ x. plans.withKeepAlive x false) (now (plan .entry)) r (now (plan .exit)) ⌝ }
+pub extern "C" fn ntske_plan_clear_keep_alive(plan: &mut [usize; 8]) -> u64
+    ensures { λ r. ⌜ Gives (changed (λ x. plans.withKeepAlive x false) (planIn (now (plan .entry)))) (now (plan .entry)) r (now (plan .exit)) ⌝ }
 {
-    let held = plan_in(plan);
-    let Held::Plan(x) = held else {
-        return NO_VALUE;
-    };
-    put_plan(x.clear_keep_alive(), plan);
-    0
+    alter(plan, Change::ClearKeepAlive)
 }
 
 // Appends a cookie to the tray: 9 for cells that hold no plan or a broken tray, then 8, 7 for the ninth, 10 for no room. Only the bytes of the field that
 // is added change.
 #[no_mangle]
-pub extern "C" fn ntske_plan_append(plan: &mut [usize], cookie: &[u8], tray: &mut [u8]) -> u32
+pub extern "C" fn ntske_plan_append(plan: &mut [usize; 8], cookie: &[u8], tray: &mut [u8]) -> u64
     ensures { λ r. ⌜ AppendsTo (now (plan .entry)) (now (cookie .entry)) (now (tray .entry)) r (now (plan .exit)) (now (tray .exit)) ⌝ }
 {
     let held = plan_in(plan);
     let Held::Plan(x) = held else {
-        return NO_VALUE;
+        return cells::refused(NtsError::InvalidValue);
     };
     let answer = x.append(cookie, tray);
-    put_appended(answer, plan)
+    match answer {
+        Appended::Plan(x) => {
+            *plan = plan_cells(x);
+            0
+        }
+        Appended::Refused(error) => cells::refused(error),
+    }
 }
 
 // The length of the reply that a plan is for: 9 for cells that hold no plan and for a broken tray.
 #[no_mangle]
-pub extern "C" fn ntske_plan_length(plan: &[usize], tray: &[u8], length: &mut [usize]) -> u32
-    ensures { λ r. ⌜ Gives 1 (countNumber (plannedLength (planIn (now (plan .entry))) (now (tray .entry)))) (countCells (plannedLength (planIn (now (plan .entry))) (now (tray .entry)))) (now (length .entry)) r (now (length .exit)) ⌝ }
+pub extern "C" fn ntske_plan_length(plan: &[usize; 8], tray: &[u8], length: &mut [usize; 1]) -> u64
+    ensures { λ r. ⌜ Gives (counted (plannedLength (planIn (now (plan .entry))) (now (tray .entry)))) (now (length .entry)) r (now (length .exit)) ⌝ }
 {
-    if length.len() < 1 {
-        return NO_ROOM;
-    }
     let held = plan_in(plan);
     let Held::Plan(x) = held else {
-        return NO_VALUE;
+        return cells::refused(NtsError::InvalidValue);
     };
     let answer = x.length(tray);
     cells::give_count(answer, length)
@@ -152,41 +124,50 @@ pub extern "C" fn ntske_plan_length(plan: &[usize], tray: &[u8], length: &mut [u
 // UTF-8, then 15 for no cookie, then 10.
 #[no_mangle]
 pub extern "C" fn ntske_write_reply(
-    plan: &[usize],
+    plan: &[usize; 8],
     tray: &[u8],
     server: &[u8],
     out: &mut [u8],
-    written: &mut [usize],
-) -> u32
+    written: &mut [usize; 1],
+) -> u64
     ensures { λ r. ⌜ Writes (plannedReply (planIn (now (plan .entry))) (now (tray .entry)) (now (server .entry)) (length (now (out .entry))))
         (plannedBytes (planIn (now (plan .entry))) (now (tray .entry)) (now (server .entry))) (now (out .entry)) (now (written .entry)) r (now (out .exit)) (now (written .exit)) ⌝ }
 {
-    if written.len() < 1 {
-        return NO_ROOM;
-    }
     let held = plan_in(plan);
     let Held::Plan(x) = held else {
-        return NO_VALUE;
+        return cells::refused(NtsError::InvalidValue);
     };
     let answer = outgoing::write_reply(x, tray, server, out);
     cells::give_count(answer, written)
 }
 
-fn put_appended(answer: Appended, plan: &mut [usize]) -> u32
-    requires { ⌜ 8 ≤ length (now plan) ⌝ }
-    ensures { λ r. ⌜ (r ≡ toldNumber (plans.toldAppended answer)) × (now (plan .exit) ≡ over (toldCells (plans.toldAppended answer)) (now (plan .entry))) ⌝ }
+// One call for each change: 9 for cells that hold no plan.
+fn alter(plan: &mut [usize; 8], change: Change) -> u64
+    ensures { λ r. ⌜ Gives (changed (changedBy change) (planIn (now (plan .entry)))) (now (plan .entry)) r (now (plan .exit)) ⌝ }
 {
-    match answer {
-        Appended::Plan(x) => {
-            put_plan(x, plan);
-            0
-        }
-        Appended::Refused(error) => error.number() as u32,
+    let held = plan_in(plan);
+    let Held::Plan(x) = held else {
+        return cells::refused(NtsError::InvalidValue);
+    };
+    *plan = plan_cells(changed_by(change, x));
+    0
+}
+
+fn changed_by(change: Change, x: Plan) -> Plan
+    ensures { λ r. ⌜ r ≡ changedBy change x ⌝ }
+{
+    match change {
+        Change::SetPort(port) => x.set_port(port),
+        Change::ClearPort => x.clear_port(),
+        Change::SetNameLength(length) => x.set_name_length(length),
+        Change::ClearNameLength => x.clear_name_length(),
+        Change::SetKeepAlive => x.set_keep_alive(),
+        Change::ClearKeepAlive => x.clear_keep_alive(),
     }
 }
 
-// The plan that cells hold: eight at least, numbers of sixteen bits, and flags of 0 or 1.
-fn plan_in(c: &[usize]) -> Held
+// The plan that cells hold: numbers of sixteen bits, and flags of 0 or 1.
+fn plan_in(c: &[usize; 8]) -> Held
     ensures { λ r. ⌜ toldHeld r ≡ planIn (now (c .entry)) ⌝ }
 {
     if is_plan(c) {
@@ -204,12 +185,9 @@ fn plan_in(c: &[usize]) -> Held
     Held::None
 }
 
-fn is_plan(c: &[usize]) -> bool
+fn is_plan(c: &[usize; 8]) -> bool
     ensures { λ r. ⌜ r ≡ isPlan (now (c .entry)) ⌝ }
 {
-    if c.len() < PLAN {
-        return false;
-    }
     (c[0] <= 65535)
         & (c[1] <= 65535)
         & (c[2] <= 1)
@@ -237,20 +215,21 @@ fn name_in(there: usize, n: u16) -> NameLength
     NameLength::None
 }
 
-fn put_plan(x: Plan, plan: &mut [usize])
-    requires { ⌜ 8 ≤ length (now plan) ⌝ }
-    ensures { λ _. ⌜ now (plan .exit) ≡ over (planCells x) (now (plan .entry)) ⌝ }
+fn plan_cells(x: Plan) -> [usize; 8]
+    ensures { λ r. ⌜ r ≡ planCells x ⌝ }
 {
     let port = x.port;
     let name = x.name;
-    plan[0] = x.protocol.0 as usize;
-    plan[1] = x.algorithm.0 as usize;
-    plan[2] = port_there(port);
-    plan[3] = port_number(port);
-    plan[4] = name_there(name);
-    plan[5] = name_number(name);
-    plan[6] = if x.keep_alive { 1 } else { 0 };
-    plan[7] = x.used;
+    [
+        x.protocol.0 as usize,
+        x.algorithm.0 as usize,
+        port_there(port),
+        port_number(port),
+        name_there(name),
+        name_number(name),
+        cells::flag_of(x.keep_alive),
+        x.used,
+    ]
 }
 
 fn port_there(port: Port) -> usize

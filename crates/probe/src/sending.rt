@@ -96,9 +96,9 @@ fn put_support(
     at: usize,
 ) -> usize {
     lent::fill(dst);
-    let length = supporting::support_length(asked, pairs, protocols);
+    let length = supporting::support_reply_length(asked, pairs, protocols);
     let to = text::put_length(out, at, length);
-    let answer = supporting::write_support(asked, pairs, protocols, dst);
+    let answer = supporting::write_support_reply(asked, pairs, protocols, dst);
     lent::put_written(out, to, dst, answer)
 }
 

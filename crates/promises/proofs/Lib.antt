@@ -8,3 +8,13 @@ pub mod Demand3Reply
 pub mod ExamplesReply
 pub mod Halves
 pub mod HalvesCalls
+pub mod Hosted
+pub mod HostedRequest
+pub mod HostedReply
+pub mod Face
+pub mod FaceReply
+pub mod HostedRecord
+pub mod FaceRecord
+pub mod FaceKept
+pub mod Granting
+pub mod FaceGranted

@@ -1,13 +1,12 @@
--- A law of an accepted request.
+-- A record that is refused is refused at the place that was asked for.
 -- Assumes nothing.
-use mathlib.Core.Path.{_≡_, refl}
-use Rattle.request.specs.Request.{toldRequest}
-use Rattle.request.specs.declared.Request.{Request}
-use Rattle.request.specs.declared.Request.the-variants.{KeyExchange, FixedKey, Support}
-use Rattle.reading.specs.Read.{requestNumber}
+use mathlib.Core.Path.{_≡_, sym, ap, _∙_}
+use mathlib.Core.List.{List}
+use Prim.Native.Nat.{ℕ}
+use Rattle.nts.specs.Refusal.{Refused}
+use Rattle.record.specs.Record.{refused, readAt}
+use Rattle.record.proofs.Inverse.{refused-was}
+use Rattle.record.proofs.Read.{rest, from-rest}
 
--- it has no number of a refusal
-pub accepted-number : (x : Request) → 0 ≡ requestNumber (toldRequest x)
-accepted-number (KeyExchange p a n) = refl
-accepted-number (FixedKey u c s a p k) = refl
-accepted-number (Support u p a k) = refl
+pub record-place : (m : List ℕ) (place : ℕ) (r : Refused) → refused r ≡ readAt m place → r .place ≡ place
+record-place m place r e = ap (λ (x : Refused). x .place) (refused-was place (rest m place) r (e ∙ sym (from-rest m place)) .1)

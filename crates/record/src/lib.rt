@@ -76,7 +76,7 @@ pub enum Looked {
 }
 
 // What is wrong with a body.
-pub enum Fault {
+enum Fault {
     None,
     Short,
     IllFormed,

@@ -5,3 +5,5 @@ pub mod Apart
 pub mod Same
 pub mod Lawful
 pub mod Order
+pub mod Within
+pub mod Numbered

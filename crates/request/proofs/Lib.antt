@@ -6,3 +6,5 @@ pub mod Same
 pub mod Messages
 pub mod Lawful
 pub mod Order
+pub mod Within
+pub mod Numbered

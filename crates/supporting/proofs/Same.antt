@@ -4,11 +4,11 @@
 use mathlib.Core.Path.{_≡_, sym, _∙_}
 use denote.Ref.{now}
 use Rattle.layout.proofs.Apart.{count-apart, wrote-same}
-use Rattle.supporting.proofs.write_support.Reads as write-support
-use Rattle.supporting.proofs.support_length.Reads as support-length
+use Rattle.supporting.proofs.write_support_reply.Reads as write-support-reply
+use Rattle.supporting.proofs.support_reply_length.Reads as support-reply-length
 
-pub write-support-same : (κs : _) (a : _) (r r′ : _) (e e′ : _) → write-support.Learnt κs a r e → write-support.Learnt κs a r′ e′ → (r ≡ r′) × (now (e .1 .1 .1 .0) ≡ now (e′ .1 .1 .1 .0))
-write-support-same κs a r r′ e e′ p q = wrote-same p q
+pub write-support-reply-same : (κs : _) (a : _) (r r′ : _) (e e′ : _) → write-support-reply.Learnt κs a r e → write-support-reply.Learnt κs a r′ e′ → (r ≡ r′) × (now (e .1 .1 .1 .0) ≡ now (e′ .1 .1 .1 .0))
+write-support-reply-same κs a r r′ e e′ p q = wrote-same p q
 
-pub support-length-same : (κs : _) (a : _) (r r′ : _) (e e′ : _) → support-length.Learnt κs a r e → support-length.Learnt κs a r′ e′ → r ≡ r′
-support-length-same κs a r r′ e e′ p q = count-apart r r′ (p ∙ sym q)
+pub support-reply-length-same : (κs : _) (a : _) (r r′ : _) (e e′ : _) → support-reply-length.Learnt κs a r e → support-reply-length.Learnt κs a r′ e′ → r ≡ r′
+support-reply-length-same κs a r r′ e e′ p q = count-apart r r′ (p ∙ sym q)

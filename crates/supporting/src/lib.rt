@@ -15,11 +15,16 @@ ghost use Rattle.messages.specs.Messages.{recordOf, cellBytes, ifAsked, message
 
 // A support reply: pairs of algorithm and key size, and protocols, from the host's cells. 9 for an odd number of cells of pairs, then 8 for a
 // list that is to be written, then 10.
-pub fn write_support(asked: Asked, pairs: &[u16], protocols: &[u16], out: &mut [u8]) -> ByteCount
+pub fn write_support_reply(
+    asked: Asked,
+    pairs: &[u16],
+    protocols: &[u16],
+    out: &mut [u8],
+) -> ByteCount
     ensures { λ r. ⌜ Wrote (fitted (length (now (out .entry))) (supportChecked asked (now (pairs .entry)) (now (protocols .entry))))
         (messageOf (supportRecords asked (now (pairs .entry)) (now (protocols .entry)))) (now (out .entry)) r (now (out .exit)) ⌝ }
 {
-    let checked = support_length(asked, pairs, protocols);
+    let checked = support_reply_length(asked, pairs, protocols);
     let ByteCount::Bytes(n) = checked else {
         return checked;
     };
@@ -30,7 +35,7 @@ pub fn write_support(asked: Asked, pairs: &[u16], protocols: &[u16], out: &mut [
 }
 
 // Its exact length, with the writer's 9 and 8.
-pub fn support_length(asked: Asked, pairs: &[u16], protocols: &[u16]) -> ByteCount
+pub fn support_reply_length(asked: Asked, pairs: &[u16], protocols: &[u16]) -> ByteCount
     ensures { λ r. ⌜ toldCount r ≡ supportChecked asked (now (pairs .entry)) (now (protocols .entry)) ⌝ }
 {
     if pairs.len() % 2 == 0 {

@@ -18,3 +18,5 @@ pub mod Like
 pub mod Answered
 pub mod Meets
 pub mod Same
+pub mod Within
+pub mod Numbered

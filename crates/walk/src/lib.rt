@@ -70,16 +70,16 @@ pub struct Walked {
 }
 
 // What one record does to a walk.
-pub enum Verdict {
+enum Verdict {
     On,
     End,
     Stop(NtsError),
 }
 
 // One step: the verdict, and where it lets the walk go on the place after the record.
-pub struct Stepped {
-    pub verdict: Verdict,
-    pub next: usize,
+struct Stepped {
+    verdict: Verdict,
+    next: usize,
 }
 
 // The bytes of a message that a limit leaves.

@@ -1,3 +1,3 @@
-pub mod Holding
-pub mod Counting
+pub mod Giving
 pub mod Same
+pub mod Kept

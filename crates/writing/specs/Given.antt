@@ -1,8 +1,8 @@
--- A record to write as seven cells, and what a support reply is to hold as one number: 01, "The record" and "Choosing and replying".
+-- A record to write as seven cells, what a support reply is to hold as one number, and a denied name appended: 01, "The record" and "Choosing and replying".
 use Prim.Native.Nat.{ℕ, _/_, _%_}
+use mathlib.Core.Path.{_≡_}
 use mathlib.Core.List.{List, []}
 use mathlib.Core.Bool.{Bool, cond, _&&_}
-use lib.ListN.{length}
 use lib.Dec.{leb, eqb}
 use Rattle.nts.specs.Refusal.{nothing}
 use Rattle.layout.specs.Write.{Count, refused, measured, recordBytes}
@@ -12,7 +12,8 @@ use Rattle.record.specs.declared.NtsRecord.{NtsRecord}
 use Rattle.record.specs.declared.NtsRecord.the-variants as r
 use Rattle.messages.specs.Messages.{supportChecked}
 use Rattle.messages.specs.declared.Asked.{Asked}
-use Rattle.cells.specs.Cells.{cell}
+use Rattle.plan.specs.Tray.{deny, grownTray}
+use Rattle.cells.specs.Cells.{Gives, cell, counted}
 
 -- ---- a record: kind, the bit of an unknown kind, a number, and two parts of the lent bytes, as the reader of one record gives them
 
@@ -21,7 +22,7 @@ pub data Held : Type 0 where
   held : NtsRecord → Held
 
 unfoldable pub isRecord : List ℕ → Bool
-isRecord c = leb 7 (length c) && (leb (cell c 0) 65535 && (leb (cell c 1) 1 && leb (cell c 2) 65535))
+isRecord c = leb (cell c 0) 65535 && leb (cell c 1) 1 && leb (cell c 2) 65535
 
 -- by kind; what a kind does not have is not looked at
 unfoldable pub itemOf : ℕ → Bool → ℕ → Part → Part → NtsRecord
@@ -65,3 +66,9 @@ askedOf n = record { algorithms = eqb (n % 2) 1; protocols = eqb (n / 2 % 2) 1; 
 
 unfoldable pub supportCount : ℕ → List ℕ → List ℕ → Count
 supportCount n pairs protocols = cond (leb n 7) (supportChecked (askedOf n) pairs protocols) (refused 9 nothing)
+
+-- ---- a denied name appended to a tray, of which one cell holds the used length
+
+pub record DeniesTo (lent name tray : List ℕ) (r : ℕ) (after tray′ : List ℕ) : Type 0 where
+  pub gives : Gives (counted (deny (cell lent 0) name tray)) lent r after
+  pub left : tray′ ≡ grownTray (deny (cell lent 0) name tray) 2 (cell lent 0) name tray

@@ -1,10 +1,9 @@
-// The writers of the other whole messages and of one record, and their lengths, for a host in C or Rust. Each answers the length into one cell; a refusal
-// changes neither it nor the output.
-use cells::NO_ROOM;
-use cells::NO_VALUE;
+// The writers of the other whole messages and of one record, their lengths, and a request's tray of denied names, for a host in C or Rust. Each answers a length into
+// one cell; a refusal changes neither it nor the output nor the tray.
 use messages::Asked;
 use nts::ErrorCode;
 use nts::NextProtocol;
+use nts::NtsError;
 use nts::WarningCode;
 use record::NtsRecord;
 use record::Part;
@@ -13,27 +12,21 @@ ghost use lib.ListN.{length};
 ghost use Rattle.layout.specs.Write.{bytes, fitted};
 ghost use Rattle.plan.specs.Tray.{namesIn};
 ghost use Rattle.messages.specs.Messages.{messageOf, bodiesOf, noProtocolRecords, noAlgorithmRecords, errorRecords, supportRecords, requestRecords, requestChecked};
-ghost use Rattle.cells.specs.Cells.{countNumber, countCells, Gives, Writes};
-ghost use Rattle.writing.specs.Given.{recordIn, isRecord, itemOf, heldLength, heldBytes, askedOf, supportCount};
+ghost use Rattle.cells.specs.Cells.{counted, Gives, Writes};
+ghost use Rattle.writing.specs.Given.{recordIn, itemOf, heldLength, heldBytes, askedOf, supportCount, DeniesTo};
 ghost use Rattle.writing.specs.Code.{toldGiven};
 
-// How many cells a record has.
-const RECORD: usize = 7;
-
 // The record that cells hold.
-pub enum Given {
+enum Given {
     Item(NtsRecord),
     None,
 }
 
 // Writes the reply that no protocol is agreed on: 10.
 #[no_mangle]
-pub extern "C" fn ntske_write_no_protocol(out: &mut [u8], written: &mut [usize]) -> u32
+pub extern "C" fn ntske_write_no_protocol(out: &mut [u8], written: &mut [usize; 1]) -> u64
     ensures { λ r. ⌜ Writes (fitted (length (now (out .entry))) (bytes 8)) (messageOf noProtocolRecords) (now (out .entry)) (now (written .entry)) r (now (out .exit)) (now (written .exit)) ⌝ }
 {
-    if written.len() < 1 {
-        return NO_ROOM;
-    }
     let answer = declining::write_no_protocol(out);
     cells::give_count(answer, written)
 }
@@ -43,25 +36,19 @@ pub extern "C" fn ntske_write_no_protocol(out: &mut [u8], written: &mut [usize])
 pub extern "C" fn ntske_write_no_algorithm(
     protocol: u16,
     out: &mut [u8],
-    written: &mut [usize],
-) -> u32
+    written: &mut [usize; 1],
+) -> u64
     ensures { λ r. ⌜ Writes (fitted (length (now (out .entry))) (bytes 14)) (messageOf (noAlgorithmRecords protocol)) (now (out .entry)) (now (written .entry)) r (now (out .exit)) (now (written .exit)) ⌝ }
 {
-    if written.len() < 1 {
-        return NO_ROOM;
-    }
     let answer = declining::write_no_algorithm(NextProtocol(protocol), out);
     cells::give_count(answer, written)
 }
 
 // Writes the reply that tells an error: 10.
 #[no_mangle]
-pub extern "C" fn ntske_write_error(code: u16, out: &mut [u8], written: &mut [usize]) -> u32
+pub extern "C" fn ntske_write_error(code: u16, out: &mut [u8], written: &mut [usize; 1]) -> u64
     ensures { λ r. ⌜ Writes (fitted (length (now (out .entry))) (bytes 10)) (messageOf (errorRecords code)) (now (out .entry)) (now (written .entry)) r (now (out .exit)) (now (written .exit)) ⌝ }
 {
-    if written.len() < 1 {
-        return NO_ROOM;
-    }
     let answer = declining::write_error(ErrorCode(code), out);
     cells::give_count(answer, written)
 }
@@ -69,43 +56,37 @@ pub extern "C" fn ntske_write_error(code: u16, out: &mut [u8], written: &mut [us
 // Writes a support reply: 1 for algorithms, 2 for protocols, 4 for keep-alive, and their sums. 9 for another number or an odd number of cells of
 // pairs, then 8 for a list that is to be written, then 10.
 #[no_mangle]
-pub extern "C" fn ntske_write_support(
+pub extern "C" fn ntske_write_support_reply(
     asked: u8,
     pairs: &[u16],
     protocols: &[u16],
     out: &mut [u8],
-    written: &mut [usize],
-) -> u32
+    written: &mut [usize; 1],
+) -> u64
     ensures { λ r. ⌜ Writes (fitted (length (now (out .entry))) (supportCount asked (now (pairs .entry)) (now (protocols .entry))))
         (messageOf (supportRecords (askedOf asked) (now (pairs .entry)) (now (protocols .entry)))) (now (out .entry)) (now (written .entry)) r (now (out .exit)) (now (written .exit)) ⌝ }
 {
-    if written.len() < 1 {
-        return NO_ROOM;
-    }
     if 7 < asked {
-        return NO_VALUE;
+        return cells::refused(NtsError::InvalidValue);
     }
-    let answer = supporting::write_support(asked_of(asked), pairs, protocols, out);
+    let answer = supporting::write_support_reply(asked_of(asked), pairs, protocols, out);
     cells::give_count(answer, written)
 }
 
 // Its exact length, with the writer's 9 and 8.
 #[no_mangle]
-pub extern "C" fn ntske_support_length(
+pub extern "C" fn ntske_support_reply_length(
     asked: u8,
     pairs: &[u16],
     protocols: &[u16],
-    length: &mut [usize],
-) -> u32
-    ensures { λ r. ⌜ Gives 1 (countNumber (supportCount asked (now (pairs .entry)) (now (protocols .entry)))) (countCells (supportCount asked (now (pairs .entry)) (now (protocols .entry)))) (now (length .entry)) r (now (length .exit)) ⌝ }
+    length: &mut [usize; 1],
+) -> u64
+    ensures { λ r. ⌜ Gives (counted (supportCount asked (now (pairs .entry)) (now (protocols .entry)))) (now (length .entry)) r (now (length .exit)) ⌝ }
 {
-    if length.len() < 1 {
-        return NO_ROOM;
-    }
     if 7 < asked {
-        return NO_VALUE;
+        return cells::refused(NtsError::InvalidValue);
     }
-    let answer = supporting::support_length(asked_of(asked), pairs, protocols);
+    let answer = supporting::support_reply_length(asked_of(asked), pairs, protocols);
     cells::give_count(answer, length)
 }
 
@@ -117,14 +98,11 @@ pub extern "C" fn ntske_write_request(
     tray: &[u8],
     used: usize,
     out: &mut [u8],
-    written: &mut [usize],
-) -> u32
+    written: &mut [usize; 1],
+) -> u64
     ensures { λ r. ⌜ Writes (fitted (length (now (out .entry))) (requestChecked (now (protocols .entry)) (now (algorithms .entry)) (namesIn used (now (tray .entry)))))
         (messageOf (requestRecords (now (protocols .entry)) (now (algorithms .entry)) (bodiesOf (namesIn used (now (tray .entry)))))) (now (out .entry)) (now (written .entry)) r (now (out .exit)) (now (written .exit)) ⌝ }
 {
-    if written.len() < 1 {
-        return NO_ROOM;
-    }
     let answer = outgoing::write_request(protocols, algorithms, tray, used, out);
     cells::give_count(answer, written)
 }
@@ -136,36 +114,39 @@ pub extern "C" fn ntske_request_length(
     algorithms: &[u16],
     tray: &[u8],
     used: usize,
-    length: &mut [usize],
-) -> u32
-    ensures { λ r. ⌜ Gives 1 (countNumber (requestChecked (now (protocols .entry)) (now (algorithms .entry)) (namesIn used (now (tray .entry)))))
-        (countCells (requestChecked (now (protocols .entry)) (now (algorithms .entry)) (namesIn used (now (tray .entry))))) (now (length .entry)) r (now (length .exit)) ⌝ }
+    length: &mut [usize; 1],
+) -> u64
+    ensures { λ r. ⌜ Gives (counted (requestChecked (now (protocols .entry)) (now (algorithms .entry)) (namesIn used (now (tray .entry))))) (now (length .entry)) r (now (length .exit)) ⌝ }
 {
-    if length.len() < 1 {
-        return NO_ROOM;
-    }
     let answer = outgoing::request_length(protocols, algorithms, tray, used);
     cells::give_count(answer, length)
+}
+
+// Appends a denied name to a request's tray, of which one cell holds the used length: 9 for a broken tray and for a name that is not UTF-8, then 8, then 10 for no
+// room. Only the bytes of the field that is added change.
+#[no_mangle]
+pub extern "C" fn ntske_append_denied(name: &[u8], tray: &mut [u8], used: &mut [usize; 1]) -> u64
+    ensures { λ r. ⌜ DeniesTo (now (used .entry)) (now (name .entry)) (now (tray .entry)) r (now (used .exit)) (now (tray .exit)) ⌝ }
+{
+    let answer = plan::append_denied(name, tray, used[0]);
+    cells::give_count(answer, used)
 }
 
 // Writes one record, told by seven cells as the reader of one record gives them; its parts lie in the source. 9 for cells that hold no record and for
 // what is none by document 01, then 8, then 10.
 #[no_mangle]
 pub extern "C" fn ntske_write_record(
-    item: &[usize],
+    item: &[usize; 7],
     source: &[u8],
     out: &mut [u8],
-    written: &mut [usize],
-) -> u32
+    written: &mut [usize; 1],
+) -> u64
     ensures { λ r. ⌜ Writes (fitted (length (now (out .entry))) (heldLength (recordIn (now (item .entry))) (now (source .entry))))
         (heldBytes (recordIn (now (item .entry))) (now (source .entry))) (now (out .entry)) (now (written .entry)) r (now (out .exit)) (now (written .exit)) ⌝ }
 {
-    if written.len() < 1 {
-        return NO_ROOM;
-    }
     let given = record_in(item);
     let Given::Item(x) = given else {
-        return NO_VALUE;
+        return cells::refused(NtsError::InvalidValue);
     };
     let answer = x.serialize(source, out);
     cells::give_count(answer, written)
@@ -173,15 +154,16 @@ pub extern "C" fn ntske_write_record(
 
 // Its exact length, with the writer's 9 and 8.
 #[no_mangle]
-pub extern "C" fn ntske_record_length(item: &[usize], source: &[u8], length: &mut [usize]) -> u32
-    ensures { λ r. ⌜ Gives 1 (countNumber (heldLength (recordIn (now (item .entry))) (now (source .entry)))) (countCells (heldLength (recordIn (now (item .entry))) (now (source .entry)))) (now (length .entry)) r (now (length .exit)) ⌝ }
+pub extern "C" fn ntske_record_length(
+    item: &[usize; 7],
+    source: &[u8],
+    length: &mut [usize; 1],
+) -> u64
+    ensures { λ r. ⌜ Gives (counted (heldLength (recordIn (now (item .entry))) (now (source .entry)))) (now (length .entry)) r (now (length .exit)) ⌝ }
 {
-    if length.len() < 1 {
-        return NO_ROOM;
-    }
     let given = record_in(item);
     let Given::Item(x) = given else {
-        return NO_VALUE;
+        return cells::refused(NtsError::InvalidValue);
     };
     let answer = x.length(source);
     cells::give_count(answer, length)
@@ -197,31 +179,28 @@ fn asked_of(n: u8) -> Asked
     }
 }
 
-// The record that cells hold: seven at least, kind and number of sixteen bits, and a bit of 0 or 1.
-fn record_in(c: &[usize]) -> Given
+// The record that cells hold: kind and number of sixteen bits, and a bit of 0 or 1.
+fn record_in(c: &[usize; 7]) -> Given
     ensures { λ r. ⌜ toldGiven r ≡ recordIn (now (c .entry)) ⌝ }
 {
-    if is_record(c) {
-        let first = Part {
-            start: c[3],
-            len: c[4],
-        };
-        let second = Part {
-            start: c[5],
-            len: c[6],
-        };
-        return Given::Item(item_of(c[0] as u16, c[1] == 1, c[2] as u16, first, second));
+    if 65535 < c[0] {
+        return Given::None;
     }
-    Given::None
-}
-
-fn is_record(c: &[usize]) -> bool
-    ensures { λ r. ⌜ r ≡ isRecord (now (c .entry)) ⌝ }
-{
-    if c.len() < RECORD {
-        return false;
+    if 1 < c[1] {
+        return Given::None;
     }
-    (c[0] <= 65535) & (c[1] <= 1) & (c[2] <= 65535)
+    if 65535 < c[2] {
+        return Given::None;
+    }
+    let first = Part {
+        start: c[3],
+        len: c[4],
+    };
+    let second = Part {
+        start: c[5],
+        len: c[6],
+    };
+    Given::Item(item_of(c[0] as u16, c[1] == 1, c[2] as u16, first, second))
 }
 
 fn item_of(kind: u16, bit: bool, n: u16, first: Part, second: Part) -> NtsRecord

@@ -8,15 +8,6 @@ use borrow.Author.Needs.{needs}
 use Rattle.handing.proofs.table_at.Statement.{statement}
 use Rattle.handing.proofs.table_at.Tie as tie
 
-mul-result : tie.Need-mul-result
-mul-result c = search needs
-
-shared-slice-read-result : tie.Need-shared-slice-read-result
-shared-slice-read-result c = search needs
-
-cast-result : tie.Need-cast-result
-cast-result c = omega (arith, c .shared-slice-known .given (c .before .before .args .i))
-
 returns : tie.Need-returns
 returns c = search needs
 
@@ -24,5 +15,4 @@ returns-2 : tie.Need-returns-2
 returns-2 c = sym (List·getD-eq-default (now (c .before .args .table)) 0 (c .if1 .left))
 
 pub table-at-spec : {M : Type 1} → statement M
-table-at-spec =
-    tie.close (tie.spec mul-result shared-slice-read-result cast-result returns returns-2)
+table-at-spec = tie.close (tie.spec (λ c. search needs) (λ c. search needs) (λ c. omega (arith, c .shared-slice-known .given (c .before .before .args .i))) returns returns-2)

@@ -18,23 +18,11 @@ abbrev μ-loop : tie.MeasureT-loop
 loop-holds : tie.Need-loop-holds Inv-loop μ-loop
 loop-holds c = choosing-start _ _
 
-sub-if1 : tie.Need-sub-if1 Inv-loop μ-loop
-sub-if1 c = search needs
-
 returns : tie.Need-returns Inv-loop μ-loop
 returns c = choosing-none _ _ _ (c .before .loop .inv) (search needs)
 
-number-at-requires : tie.Need-number-at-requires Inv-loop μ-loop
-number-at-requires c κs = search needs
-
-has-requires : tie.Need-has-requires Inv-loop μ-loop
-has-requires c κs = search needs
-
 returns-2 : tie.Need-returns-2 Inv-loop μ-loop
 returns-2 c = choosing-found _ _ _ (c .before .before .before .before .loop .inv) _ (c .before .before .number-at .ensures) (search needs) (sym (c .if2 .taken) ∙ c .before .has .ensures)
-
-add-at : tie.Need-add-at Inv-loop μ-loop
-add-at c = search needs
 
 loop-less : tie.Need-loop-less Inv-loop μ-loop
 loop-less c = search needs
@@ -43,17 +31,4 @@ loop-again : tie.Need-loop-again Inv-loop μ-loop
 loop-again c = choosing-on _ _ _ (c .before .before .before .before .loop .inv) _ (c .before .before .number-at .ensures) (search needs) (sym (c .if2 .left) ∙ c .before .has .ensures)
 
 pub first-common-spec : {M : Type 1} → statement M
-first-common-spec =
-    tie.close
-    (tie.spec
-    Inv-loop
-    μ-loop
-    loop-holds
-    sub-if1
-    returns
-    number-at-requires
-    has-requires
-    returns-2
-    add-at
-    loop-less
-    loop-again)
+first-common-spec = tie.close (tie.spec Inv-loop μ-loop loop-holds (λ c. search needs) returns (λ c κs. search needs) (λ c κs. search needs) returns-2 (λ c. search needs) loop-less loop-again)

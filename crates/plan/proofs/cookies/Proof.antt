@@ -8,15 +8,6 @@ use Rattle.plan.proofs.Counting.{cookies-broken, cookies-many, cookies-
 use Rattle.plan.proofs.cookies.Statement.{statement}
 use Rattle.plan.proofs.cookies.Tie as tie
 
-walk-tray-requires : tie.Need-walk-tray-requires
-walk-tray-requires c κs = search needs
-
-enum-known-tally : tie.Need-enum-known-tally
-enum-known-tally c = search needs
-
-enum-told : tie.Need-enum-told
-enum-told c = search needs
-
 returns : tie.Need-returns
 returns c = ap toldTally (c .enum-told .given .1) ∙ cookies-broken _ _ (ap toldTally (sym (c .enum-told .given .1)) ∙ c .before .before .walk-tray .ensures)
 
@@ -28,4 +19,4 @@ returns-3 c = cookies-few _ _ _ _ (ap toldTally (sym (c .before .before .before 
 
 pub cookies-spec : {M : Type 1} → statement M
 cookies-spec =
-    tie.close (tie.spec walk-tray-requires enum-known-tally enum-told returns returns-2 returns-3)
+    tie.close (tie.spec (λ c κs. search needs) (λ c. search needs) (λ c. search needs) returns returns-2 returns-3)

@@ -5,18 +5,6 @@ use native.Mathlib.Omega.{arith}
 use Rattle.plan.proofs.name_length.Statement.{statement}
 use Rattle.plan.proofs.name_length.Tie as tie
 
-enum-known-name : tie.Need-enum-known-name
-enum-known-name c = search needs
-
-cast-result : tie.Need-cast-result
-cast-result c = search needs
-
-add-result : tie.Need-add-result
-add-result c = search needs
-
-enum-told : tie.Need-enum-told
-enum-told c = search needs
-
 returns : tie.Need-returns
 returns c = (rw (c .before .name .given .1), omega arith)
 
@@ -25,4 +13,4 @@ returns-2 c = search needs
 
 pub name-length-spec : {M : Type 1} → statement M
 name-length-spec =
-    tie.close (tie.spec enum-known-name cast-result add-result enum-told returns returns-2)
+    tie.close (tie.spec (λ c. search needs) (λ c. search needs) (λ c. search needs) (λ c. search needs) returns returns-2)

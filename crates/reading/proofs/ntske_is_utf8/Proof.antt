@@ -6,9 +6,6 @@ use borrow.Author.Needs.{needs}
 use Rattle.reading.proofs.ntske_is_utf8.Statement.{statement}
 use Rattle.reading.proofs.ntske_is_utf8.Tie as tie
 
-is-utf8-requires : tie.Need-is-utf8-requires
-is-utf8-requires c κs = search needs
-
 returns : tie.Need-returns
 returns c = ap flag (sym (c .if1 .taken) ∙ c .before .is-utf8 .ensures)
 
@@ -16,4 +13,4 @@ returns-2 : tie.Need-returns-2
 returns-2 c = ap flag (sym (c .if1 .left) ∙ c .before .is-utf8 .ensures)
 
 pub ntske-is-utf8-spec : {M : Type 1} → statement M
-ntske-is-utf8-spec = tie.close (tie.spec is-utf8-requires returns returns-2)
+ntske-is-utf8-spec = tie.close (tie.spec (λ c κs. search needs) returns returns-2)

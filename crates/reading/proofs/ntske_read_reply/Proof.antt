@@ -1,31 +1,33 @@
--- `reading::ntske_read_reply` meets its contract: what was read is put where there are cells.
+-- `reading::ntske_read_reply` meets its contract: the cells of an accepted reply, or a refusal, whose place is not past a limit of sixteen bits.
 -- Assumes nothing.
-use denote.Ref.{now}
-use Rattle.reading.specs.Read.{replyNumber, replyCells}
-use Rattle.cells.proofs.Lent.{gives-few, gives-told, few-so, few-not}
+use mathlib.Core.Path.{refl, sym, ap, _∙_}
+use native.Mathlib.Omega.{arith}
+use Rattle.reply.specs.Reply.{toldAnswer}
+use Rattle.reply.proofs.Within.{told-within}
+use Rattle.cells.proofs.Lent.{given}
+use Rattle.reading.specs.Read.{replyGiven}
 use borrow.Author.Needs.{needs}
 use Rattle.reading.proofs.ntske_read_reply.Statement.{statement}
 use Rattle.reading.proofs.ntske_read_reply.Tie as tie
 
+refused-requires : tie.Need-refused-requires
+refused-requires c κs =
+    let p = c .before .before .before .before .before .parse .ensures in
+    let w = told-within _ _ _ _ (sym (ap toldAnswer (c .before .read2 .given .1)) ∙ p .says) in
+    omega arith
+
 returns : tie.Need-returns
-returns c = record { gives = gives-few (c .if1 .taken); left = rw (few-so 10 (now (c .before .before .before .before .args .answer)) (c .if1 .taken)) }
-
-parse-requires : tie.Need-parse-requires
-parse-requires c κs = search needs
-
-put-reply-requires : tie.Need-put-reply-requires
-put-reply-requires c κs = search needs
-
-same-length : tie.Need-same-length
-same-length c = search needs
-
-same-length-2 : tie.Need-same-length-2
-same-length-2 c = search needs
+returns c =
+    let p = c .before .before .before .before .before .before .parse .ensures in
+    record { gives = given (λ g. g) (c .reply-cells .ensures ∙ ap replyGiven (sym (ap toldAnswer (c .before .before .read .given .1)) ∙ p .says)) (record { says = refl; left = refl }); left = p .left }
 
 returns-2 : tie.Need-returns-2
-returns-2 c = record { gives = gives-told replyNumber replyCells (c .before .before .before .before .before .before .before .before .if1 .left) (c .before .before .before .before .before .before .parse .ensures .says) (c .before .before .put-reply .ensures .0) (c .before .before .put-reply .ensures .1); left = rw (few-not 10 (now (c .before .before .before .before .before .before .before .before .before .before .before .before .args .answer)) (c .before .before .before .before .before .before .before .before .if1 .left)) (c .before .before .before .before .before .before .parse .ensures .left) }
+returns-2 c =
+    let p = c .before .before .before .before .before .before .parse .ensures in
+    record { gives = given replyGiven (sym (ap toldAnswer (c .before .before .read2 .given .1)) ∙ p .says) (record { says = c .refused .ensures; left = refl }); left = p .left }
 
 pub ntske-read-reply-spec : {M : Type 1} → statement M
 ntske-read-reply-spec =
     tie.close
-    (tie.spec returns parse-requires put-reply-requires same-length same-length-2 returns-2)
+    (tie.spec (λ c κs. search needs) (λ c. search needs) (λ c κs. search needs) (λ c. search needs) refused-requires (λ c. search needs)
+    returns (λ c. search needs) returns-2)

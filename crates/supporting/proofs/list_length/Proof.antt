@@ -4,12 +4,6 @@ use borrow.Author.Needs.{needs}
 use Rattle.supporting.proofs.list_length.Statement.{statement}
 use Rattle.supporting.proofs.list_length.Tie as tie
 
-mul-result : tie.Need-mul-result
-mul-result c = search needs
-
-add-result : tie.Need-add-result
-add-result c = search needs
-
 returns : tie.Need-returns
 returns c = rw (c .if1 .taken)
 
@@ -17,4 +11,4 @@ returns-2 : tie.Need-returns-2
 returns-2 c = search needs
 
 pub list-length-spec : {M : Type 1} → statement M
-list-length-spec = tie.close (tie.spec mul-result add-result returns returns-2)
+list-length-spec = tie.close (tie.spec (λ c. search needs) (λ c. search needs) returns returns-2)

@@ -7,12 +7,6 @@ use Rattle.supporting.proofs.Judging.{asked-short}
 use Rattle.supporting.proofs.put_list_if.Statement.{statement}
 use Rattle.supporting.proofs.put_list_if.Tie as tie
 
-put-list-requires : tie.Need-put-list-requires
-put-list-requires c κs = search needs
-
-same-length : tie.Need-same-length
-same-length c = search needs
-
 returns : tie.Need-returns
 returns c = asked-record _ (c .before .before .before .before .if1 .taken) (list-tried _ (now (c .before .before .before .before .before .before .before .args .cells)) (asked-short _ _ (c .before .before .before .before .if1 .taken) (c .before .before .before .before .before .before .before .pre)) (c .before .before .put-list .ensures))
 
@@ -20,4 +14,4 @@ returns-2 : tie.Need-returns-2
 returns-2 c = not-asked _ _ _ _ (c .if1 .left)
 
 pub put-list-if-spec : {M : Type 1} → statement M
-put-list-if-spec = tie.close (tie.spec put-list-requires same-length returns returns-2)
+put-list-if-spec = tie.close (tie.spec (λ c κs. search needs) (λ c. search needs) returns returns-2)

@@ -68,19 +68,4 @@ returns-15 c = let k = c .match .rest in simp (ne-eqb _ _ (k .1), ne-eqb _ _ (k 
 pub item-of-spec : {M : Type 1} → statement M
 item-of-spec =
     tie.close
-    (tie.spec
-    returns
-    returns-2
-    returns-3
-    returns-4
-    returns-5
-    returns-6
-    returns-7
-    returns-8
-    returns-9
-    returns-10
-    returns-11
-    returns-12
-    returns-13
-    returns-14
-    returns-15)
+    (tie.spec returns returns-2 returns-3 returns-4 returns-5 returns-6 returns-7 returns-8 returns-9 returns-10 returns-11 returns-12 returns-13 returns-14 returns-15)

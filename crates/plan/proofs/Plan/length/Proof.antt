@@ -8,17 +8,8 @@ use Rattle.plan.proofs.Counting.{few-of, length-broken, length-whole}
 use Rattle.plan.proofs.Plan.length.Statement.{statement}
 use Rattle.plan.proofs.Plan.length.Tie as tie
 
-cookies-requires : tie.Need-cookies-requires
-cookies-requires c κs = search needs
-
-enum-known-tally : tie.Need-enum-known-tally
-enum-known-tally c = search needs
-
 written-length-requires : tie.Need-written-length-requires
 written-length-requires c κs = let f = few-of _ _ _ _ (ap toldTally (sym (c .before .tally .given .1)) ∙ c .before .before .before .cookies .ensures) in (f .few, omega arith)
-
-enum-told : tie.Need-enum-told
-enum-told c = search needs
 
 returns : tie.Need-returns
 returns c = length-whole _ _ _ _ _ (ap toldTally (sym (c .before .before .tally .given .1)) ∙ c .before .before .before .before .cookies .ensures) (c .written-length .ensures)
@@ -30,9 +21,9 @@ pub length-spec : {M : Type 1} → statement M
 length-spec =
     tie.close
     (tie.spec
-    cookies-requires
-    enum-known-tally
+    (λ c κs. search needs)
+    (λ c. search needs)
     written-length-requires
-    enum-told
+    (λ c. search needs)
     returns
     returns-2)

@@ -1,0 +1,179 @@
+-- Demand 1, "A refusal bears its number from document 01": where the word of a call is not 0, it is that of the refusal which its definition tells (`gives-refused`,
+-- cells/proofs/Lent.antt, for every contract of `Gives`). Here the other way round: a call returns 0 only where its definition refuses nothing, since no refusal's number
+-- is 0, and then what was lent holds what the definition gives. One theorem for each call that can refuse, over its own contract; for the readers of whole messages
+-- `request-word` and `reply-word` (FaceKept.antt). The calls ntske_part, ntske_entry, ntske_number, ntske_pair and ntske_plan_new refuse nothing, by their contracts.
+-- Assumes nothing.
+use mathlib.Core.Path.{_≡_}
+use mathlib.Core.List.{List, [], _∷_}
+use mathlib.Core.Bool.{true, false}
+use Prim.Native.Nat.{ℕ}
+use lib.ListN.{length}
+use denote.Ref.{now}
+use Rattle.wire.specs.Over.{over}
+use Rattle.nts.specs.Algorithm.{describe}
+use Rattle.layout.specs.Write.{Count, bytes, fitted}
+use Rattle.record.specs.Record.{readAt}
+use Rattle.negotiation.specs.Negotiation as choices
+use Rattle.plan.specs.Tray.{namesIn, deny}
+use Rattle.plan.specs.Plan as plans
+use Rattle.plan.specs.declared.Port.the-variants as ports
+use Rattle.plan.specs.declared.NameLength.the-variants as names
+use Rattle.messages.specs.Messages.{messageOf, bodiesOf, noProtocolRecords, noAlgorithmRecords, errorRecords, supportRecords, requestRecords, requestChecked}
+use Rattle.listing.specs.Listing.{listing}
+use Rattle.cells.specs.Cells.{Given, cells, cell}
+use Rattle.cells.proofs.Lent.{gives-granted, counted-granted, writes-granted, count-fitted}
+use Rattle.reading.specs.Read.{recordGiven}
+use Rattle.handing.specs.Handed.{choiceGiven, protocolGiven, keyGiven}
+use Rattle.planning.specs.Planned.{planIn, changed, grownGiven, appended, plannedLength, plannedReply, plannedBytes}
+use Rattle.writing.specs.Given.{recordIn, heldLength, heldBytes, askedOf, supportCount}
+use Rattle.reading.proofs.ntske_read_record.Reads as read-record
+use Rattle.handing.proofs.ntske_choose.Reads as choose
+use Rattle.handing.proofs.ntske_choose_protocol.Reads as choose-protocol
+use Rattle.handing.proofs.ntske_key_length.Reads as key-length
+use Rattle.planning.proofs.ntske_plan_set_port.Reads as plan-set-port
+use Rattle.planning.proofs.ntske_plan_clear_port.Reads as plan-clear-port
+use Rattle.planning.proofs.ntske_plan_set_name_length.Reads as plan-set-name-length
+use Rattle.planning.proofs.ntske_plan_clear_name_length.Reads as plan-clear-name-length
+use Rattle.planning.proofs.ntske_plan_set_keep_alive.Reads as plan-set-keep-alive
+use Rattle.planning.proofs.ntske_plan_clear_keep_alive.Reads as plan-clear-keep-alive
+use Rattle.planning.proofs.ntske_plan_append.Reads as plan-append
+use Rattle.planning.proofs.ntske_plan_length.Reads as plan-length
+use Rattle.planning.proofs.ntske_write_reply.Reads as write-reply
+use Rattle.writing.proofs.ntske_write_no_protocol.Reads as write-no-protocol
+use Rattle.writing.proofs.ntske_write_no_algorithm.Reads as write-no-algorithm
+use Rattle.writing.proofs.ntske_write_error.Reads as write-error
+use Rattle.writing.proofs.ntske_write_support_reply.Reads as write-support-reply
+use Rattle.writing.proofs.ntske_support_reply_length.Reads as support-reply-length
+use Rattle.writing.proofs.ntske_write_request.Reads as write-request
+use Rattle.writing.proofs.ntske_request_length.Reads as request-length
+use Rattle.writing.proofs.ntske_append_denied.Reads as append-denied
+use Rattle.writing.proofs.ntske_write_record.Reads as write-record
+use Rattle.writing.proofs.ntske_record_length.Reads as record-length
+use Rattle.showing.proofs.ntske_list.Reads as list
+use Rattle.promises.proofs.Granting.{record-sure, held-sure, choice-sure, protocol-sure, key-sure, changed-sure, appended-sure, planned-sure, reply-sure, support-sure, request-sure, deny-sure}
+
+-- ---- what 0 says
+
+-- the definition gives cells, and they are those that were lent
+abbrev pub Gave : Given → List ℕ → Type 0
+Gave g after = g ≡ cells after
+
+-- .. a count of bytes, and the cell holds it
+abbrev pub Counted : Count → List ℕ → Type 0
+Counted a after = (n : ℕ) × (a ≡ bytes n) × (after ≡ n ∷ [])
+
+-- .. and the bytes b are at the output's front
+abbrev pub Written : Count → List ℕ → List ℕ → List ℕ → List ℕ → Type 0
+Written a b o o′ after = (n : ℕ) × (a ≡ bytes n) × (o′ ≡ over b o) × (after ≡ n ∷ [])
+
+-- ---- one record; a choice, and the length of a key
+
+pub read-record-granted : (κs : _) (a : _) (r : _) (e : _) → read-record.Learnt κs a r e → r ≡ 0
+    → Gave (recordGiven (readAt (now (a .0)) (a .1 .0))) (now (e .1 .1 .0))
+read-record-granted κs a r e p z = gives-granted p (record-sure (now (a .0)) (a .1 .0)) z
+
+pub choose-granted : (κs : _) (a : _) (r : _) (e : _) → choose.Learnt κs a r e → r ≡ 0
+    → Gave (choiceGiven (choices.choose (now (a .0)) (now (a .1 .0)) (now (a .1 .1 .0)) (now (a .1 .1 .1 .0)))) (now (e .1 .1 .1 .1 .0))
+choose-granted κs a r e p z = gives-granted p (choice-sure (now (a .0)) (now (a .1 .0)) (now (a .1 .1 .0)) (now (a .1 .1 .1 .0))) z
+
+pub choose-protocol-granted : (κs : _) (a : _) (r : _) (e : _) → choose-protocol.Learnt κs a r e → r ≡ 0
+    → Gave (protocolGiven (choices.chooseProtocol (now (a .0)) (now (a .1 .0)))) (now (e .1 .1 .0))
+choose-protocol-granted κs a r e p z = gives-granted p (protocol-sure (now (a .0)) (now (a .1 .0))) z
+
+pub key-length-granted : (κs : _) (a : _) (r : _) (e : _) → key-length.Learnt κs a r e → r ≡ 0
+    → Gave (keyGiven (a .0) (describe (a .0))) (now (e .1 .0))
+key-length-granted κs a r e p z = gives-granted p (key-sure (a .0) (describe (a .0))) z
+
+-- ---- a plan, its length and its reply
+
+pub plan-set-port-granted : (κs : _) (a : _) (r : _) (e : _) → plan-set-port.Learnt κs a r e → r ≡ 0
+    → Gave (changed (λ x. plans.withPort x (ports.Number (a .1 .0))) (planIn (now (a .0)))) (now (e .0))
+plan-set-port-granted κs a r e p z = gives-granted p (changed-sure _ (planIn (now (a .0)))) z
+
+pub plan-clear-port-granted : (κs : _) (a : _) (r : _) (e : _) → plan-clear-port.Learnt κs a r e → r ≡ 0
+    → Gave (changed (λ x. plans.withPort x ports.None) (planIn (now (a .0)))) (now (e .0))
+plan-clear-port-granted κs a r e p z = gives-granted p (changed-sure _ (planIn (now (a .0)))) z
+
+pub plan-set-name-length-granted : (κs : _) (a : _) (r : _) (e : _) → plan-set-name-length.Learnt κs a r e → r ≡ 0
+    → Gave (changed (λ x. plans.withName x (names.Bytes (a .1 .0))) (planIn (now (a .0)))) (now (e .0))
+plan-set-name-length-granted κs a r e p z = gives-granted p (changed-sure _ (planIn (now (a .0)))) z
+
+pub plan-clear-name-length-granted : (κs : _) (a : _) (r : _) (e : _) → plan-clear-name-length.Learnt κs a r e → r ≡ 0
+    → Gave (changed (λ x. plans.withName x names.None) (planIn (now (a .0)))) (now (e .0))
+plan-clear-name-length-granted κs a r e p z = gives-granted p (changed-sure _ (planIn (now (a .0)))) z
+
+pub plan-set-keep-alive-granted : (κs : _) (a : _) (r : _) (e : _) → plan-set-keep-alive.Learnt κs a r e → r ≡ 0
+    → Gave (changed (λ x. plans.withKeepAlive x true) (planIn (now (a .0)))) (now (e .0))
+plan-set-keep-alive-granted κs a r e p z = gives-granted p (changed-sure _ (planIn (now (a .0)))) z
+
+pub plan-clear-keep-alive-granted : (κs : _) (a : _) (r : _) (e : _) → plan-clear-keep-alive.Learnt κs a r e → r ≡ 0
+    → Gave (changed (λ x. plans.withKeepAlive x false) (planIn (now (a .0)))) (now (e .0))
+plan-clear-keep-alive-granted κs a r e p z = gives-granted p (changed-sure _ (planIn (now (a .0)))) z
+
+pub plan-append-granted : (κs : _) (a : _) (r : _) (e : _) → plan-append.Learnt κs a r e → r ≡ 0
+    → Gave (grownGiven (appended (planIn (now (a .0))) (now (a .1 .0)) (now (a .1 .1 .0)))) (now (e .0))
+plan-append-granted κs a r e p z = gives-granted (p .gives) (appended-sure (planIn (now (a .0))) (now (a .1 .0)) (now (a .1 .1 .0))) z
+
+pub plan-length-granted : (κs : _) (a : _) (r : _) (e : _) → plan-length.Learnt κs a r e → r ≡ 0
+    → Counted (plannedLength (planIn (now (a .0))) (now (a .1 .0))) (now (e .1 .1 .0))
+plan-length-granted κs a r e p z = counted-granted p (planned-sure (planIn (now (a .0))) (now (a .1 .0))) z
+
+pub write-reply-granted : (κs : _) (a : _) (r : _) (e : _) → write-reply.Learnt κs a r e → r ≡ 0
+    → Written (plannedReply (planIn (now (a .0))) (now (a .1 .0)) (now (a .1 .1 .0)) (length (now (a .1 .1 .1 .0))))
+    (plannedBytes (planIn (now (a .0))) (now (a .1 .0)) (now (a .1 .1 .0))) (now (a .1 .1 .1 .0)) (now (e .1 .1 .1 .0)) (now (e .1 .1 .1 .1 .0))
+write-reply-granted κs a r e p z = writes-granted p (reply-sure (planIn (now (a .0))) (now (a .1 .0)) (now (a .1 .1 .0)) (length (now (a .1 .1 .1 .0)))) z
+
+-- ---- the other writers and lengths, and a denied name appended
+
+pub write-no-protocol-granted : (κs : _) (a : _) (r : _) (e : _) → write-no-protocol.Learnt κs a r e → r ≡ 0
+    → Written (fitted (length (now (a .0))) (bytes 8)) (messageOf noProtocolRecords) (now (a .0)) (now (e .0)) (now (e .1 .0))
+write-no-protocol-granted κs a r e p z = writes-granted p (count-fitted (length (now (a .0))) (bytes 8) tt) z
+
+pub write-no-algorithm-granted : (κs : _) (a : _) (r : _) (e : _) → write-no-algorithm.Learnt κs a r e → r ≡ 0
+    → Written (fitted (length (now (a .1 .0))) (bytes 14)) (messageOf (noAlgorithmRecords (a .0))) (now (a .1 .0)) (now (e .1 .0)) (now (e .1 .1 .0))
+write-no-algorithm-granted κs a r e p z = writes-granted p (count-fitted (length (now (a .1 .0))) (bytes 14) tt) z
+
+pub write-error-granted : (κs : _) (a : _) (r : _) (e : _) → write-error.Learnt κs a r e → r ≡ 0
+    → Written (fitted (length (now (a .1 .0))) (bytes 10)) (messageOf (errorRecords (a .0))) (now (a .1 .0)) (now (e .1 .0)) (now (e .1 .1 .0))
+write-error-granted κs a r e p z = writes-granted p (count-fitted (length (now (a .1 .0))) (bytes 10) tt) z
+
+pub write-support-reply-granted : (κs : _) (a : _) (r : _) (e : _) → write-support-reply.Learnt κs a r e → r ≡ 0
+    → Written (fitted (length (now (a .1 .1 .1 .0))) (supportCount (a .0) (now (a .1 .0)) (now (a .1 .1 .0))))
+    (messageOf (supportRecords (askedOf (a .0)) (now (a .1 .0)) (now (a .1 .1 .0)))) (now (a .1 .1 .1 .0)) (now (e .1 .1 .1 .0)) (now (e .1 .1 .1 .1 .0))
+write-support-reply-granted κs a r e p z =
+    writes-granted p (count-fitted (length (now (a .1 .1 .1 .0))) (supportCount (a .0) (now (a .1 .0)) (now (a .1 .1 .0))) (support-sure (a .0) (now (a .1 .0)) (now (a .1 .1 .0)))) z
+
+pub support-reply-length-granted : (κs : _) (a : _) (r : _) (e : _) → support-reply-length.Learnt κs a r e → r ≡ 0
+    → Counted (supportCount (a .0) (now (a .1 .0)) (now (a .1 .1 .0))) (now (e .1 .1 .1 .0))
+support-reply-length-granted κs a r e p z = counted-granted p (support-sure (a .0) (now (a .1 .0)) (now (a .1 .1 .0))) z
+
+pub write-request-granted : (κs : _) (a : _) (r : _) (e : _) → write-request.Learnt κs a r e → r ≡ 0
+    → Written (fitted (length (now (a .1 .1 .1 .1 .0))) (requestChecked (now (a .0)) (now (a .1 .0)) (namesIn (a .1 .1 .1 .0) (now (a .1 .1 .0)))))
+    (messageOf (requestRecords (now (a .0)) (now (a .1 .0)) (bodiesOf (namesIn (a .1 .1 .1 .0) (now (a .1 .1 .0)))))) (now (a .1 .1 .1 .1 .0)) (now (e .1 .1 .1 .1 .0)) (now (e .1 .1 .1 .1 .1 .0))
+write-request-granted κs a r e p z =
+    writes-granted p (count-fitted (length (now (a .1 .1 .1 .1 .0))) (requestChecked (now (a .0)) (now (a .1 .0)) (namesIn (a .1 .1 .1 .0) (now (a .1 .1 .0)))) (request-sure (now (a .0)) (now (a .1 .0)) (namesIn (a .1 .1 .1 .0) (now (a .1 .1 .0))))) z
+
+pub request-length-granted : (κs : _) (a : _) (r : _) (e : _) → request-length.Learnt κs a r e → r ≡ 0
+    → Counted (requestChecked (now (a .0)) (now (a .1 .0)) (namesIn (a .1 .1 .1 .0) (now (a .1 .1 .0)))) (now (e .1 .1 .1 .1 .0))
+request-length-granted κs a r e p z = counted-granted p (request-sure (now (a .0)) (now (a .1 .0)) (namesIn (a .1 .1 .1 .0) (now (a .1 .1 .0)))) z
+
+pub append-denied-granted : (κs : _) (a : _) (r : _) (e : _) → append-denied.Learnt κs a r e → r ≡ 0
+    → Counted (deny (cell (now (a .1 .1 .0)) 0) (now (a .0)) (now (a .1 .0))) (now (e .1 .1 .0))
+append-denied-granted κs a r e p z = counted-granted (p .gives) (deny-sure (cell (now (a .1 .1 .0)) 0) (now (a .0)) (now (a .1 .0))) z
+
+pub write-record-granted : (κs : _) (a : _) (r : _) (e : _) → write-record.Learnt κs a r e → r ≡ 0
+    → Written (fitted (length (now (a .1 .1 .0))) (heldLength (recordIn (now (a .0))) (now (a .1 .0))))
+    (heldBytes (recordIn (now (a .0))) (now (a .1 .0))) (now (a .1 .1 .0)) (now (e .1 .1 .0)) (now (e .1 .1 .1 .0))
+write-record-granted κs a r e p z =
+    writes-granted p (count-fitted (length (now (a .1 .1 .0))) (heldLength (recordIn (now (a .0))) (now (a .1 .0))) (held-sure (recordIn (now (a .0))) (now (a .1 .0)))) z
+
+pub record-length-granted : (κs : _) (a : _) (r : _) (e : _) → record-length.Learnt κs a r e → r ≡ 0
+    → Counted (heldLength (recordIn (now (a .0))) (now (a .1 .0))) (now (e .1 .1 .0))
+record-length-granted κs a r e p z = counted-granted p (held-sure (recordIn (now (a .0))) (now (a .1 .0))) z
+
+-- ---- a listing
+
+pub list-granted : (κs : _) (a : _) (r : _) (e : _) → list.Learnt κs a r e → r ≡ 0
+    → Written (fitted (length (now (a .1 .1 .1 .0))) (bytes (length (listing (now (a .0)) (a .1 .0) (a .1 .1 .0)))))
+    (listing (now (a .0)) (a .1 .0) (a .1 .1 .0)) (now (a .1 .1 .1 .0)) (now (e .1 .1 .1 .0)) (now (e .1 .1 .1 .1 .0))
+list-granted κs a r e p z = writes-granted p (count-fitted (length (now (a .1 .1 .1 .0))) (bytes (length (listing (now (a .0)) (a .1 .0) (a .1 .1 .0)))) tt) z

@@ -1,0 +1,107 @@
+-- What a host gets in hand by the cells of ntske_read_reply is what a caller gets in hand of the reply that they tell.
+-- Assumes nothing.
+use mathlib.Core.Path.{_≡_, refl, sym, ap, _∙_}
+use mathlib.Core.List.{List}
+use mathlib.Core.Bool.{cond}
+use Prim.Native.Nat.{ℕ}
+use lib.ListN.{length}
+use lib.Dec.{eqb}
+use Rattle.wire.specs.Bytes.{numberAt, partAt}
+use Rattle.wire.specs.Over.{over}
+use Rattle.wire.proofs.Over.{over-none}
+use Rattle.nts.specs.Refusal.{Refused}
+use Rattle.layout.specs.declared.Part.{Part}
+use Rattle.walk.specs.Walk.{Sighting}
+use Rattle.walk.specs.Judge.{bodyIn, partOf, refused, accepted}
+use Rattle.walk.specs.Judge as judge
+use Rattle.places.specs.Places.{cells, roomOf}
+use Rattle.reply.specs.declared.KeyExchangeResponse.{KeyExchangeResponse}
+use Rattle.reply.specs.declared.Server.{Server}
+use Rattle.reply.specs.declared.Server.the-variants as server
+use Rattle.reply.specs.declared.Port.{Port}
+use Rattle.reply.specs.declared.Port.the-variants as port
+use Rattle.reply.specs.declared.Answer.the-variants.{Accepted}
+use Rattle.reply.specs.Reply.{Sent, sent, notSent, mapSent, Form, reply, mapForm, replyOf, toldForm, toldBy, toldServer, toldPort, toldReply, cookiesOf, tableAfter, Reads}
+use Rattle.reply.proofs.Numbered.{reply-numbered}
+use Rattle.cells.specs.Cells.{word, returned, held}
+use Rattle.reading.specs.Read.{serverThere, serverName, portThere, portNumber, replyGiven, ReadsReply}
+use Rattle.promises.specs.Handed.{bytesAt}
+use Rattle.promises.specs.HandedReply.{Shown, handedOut}
+use Rattle.promises.specs.Cells.{replyInHand}
+use Rattle.promises.proofs.HandingReply.{inHand, in-hand}
+use Rattle.promises.proofs.Hosted.{Hosted}
+use Rattle.promises.proofs.HostedRequest.{flag-back}
+
+-- ---- the reply that an accepted message tells
+
+abbrev serverOf : Sent Sighting → Server
+serverOf notSent = server.NotSent
+serverOf (sent x) = server.Sent (partOf x)
+
+abbrev portOf : List ℕ → Sent Sighting → Port
+portOf m notSent = port.NotSent
+portOf m (sent x) = port.Sent (numberAt (bodyIn m x) 0)
+
+abbrev responseOf : List ℕ → Form Sighting → KeyExchangeResponse
+responseOf m (reply p a s t k c) = record {
+  protocol = record { 0 = numberAt (bodyIn m p) 0 };
+  algorithm = record { 0 = numberAt (bodyIn m a) 0 };
+  server = serverOf s;
+  port = portOf m t;
+  «keep_alive» = k;
+  cookies = length c;
+}
+
+told-of : (m : List ℕ) (q : Form Sighting) → toldReply (responseOf m q) ≡ toldForm m q
+told-of m (reply p a notSent notSent k c) = refl
+told-of m (reply p a notSent (sent t) k c) = refl
+told-of m (reply p a (sent s) notSent k c) = refl
+told-of m (reply p a (sent s) (sent t) k c) = refl
+
+-- ---- its cells
+
+module _ (m : List ℕ) where
+  server-back : (s : Sent Part) → cond (eqb (serverThere s) 1) (sent (partAt m (serverName s .start) (serverName s .len))) notSent ≡ mapSent (bytesAt m) s
+  server-back notSent = refl
+  server-back (sent p) = refl
+
+  port-back : (t : Sent ℕ) → cond (eqb (portThere t) 1) (sent (portNumber t)) notSent ≡ t
+  port-back notSent = refl
+  port-back (sent n) = refl
+
+  -- they are read back
+  cells-back : (table lent : List ℕ) (x : KeyExchangeResponse) → replyInHand m table (held (replyGiven (toldReply x)) lent) ≡ handedOut m table x
+  cells-back table lent x = rw (server-back (toldServer (x .server)), port-back (toldPort (x .port)), flag-back (x .«keep_alive»))
+
+-- ---- a call
+
+module _ {m : List ℕ} {n : ℕ} {table lent : List ℕ} {r : ℕ} {table′ after : List ℕ} (c : ReadsReply m n table lent r table′ after) where
+  pub reply-grants : (q : Form Sighting) → replyOf m n (roomOf table) ≡ accepted q → (r ≡ 0) × (replyInHand m table′ after ≡ inHand (mapForm (bodyIn m) q))
+  reply-grants q w =
+      let x = responseOf m q in
+      let e : toldBy m (replyOf m n (roomOf table)) ≡ toldReply x = ap (toldBy m) w ∙ sym (told-of m q) in
+      let reads : Reads m n table (Accepted x) table′ = record { says = sym e; left = c .left } in (
+        c .gives .says ∙ ap (λ (t : _). returned (replyGiven t)) e,
+        ap (replyInHand m table′) (c .gives .left ∙ ap (λ (t : _). held (replyGiven t) lent) e) ∙ cells-back m table′ lent x
+            ∙ in-hand m n table (Accepted x) table′ reads x q refl w,
+      )
+
+  pub reply-refuses : (y : Refused) → replyOf m n (roomOf table) ≡ refused y → (r ≡ word y) × (table′ ≡ table) × (after ≡ lent)
+  unfolding tableAfter
+  reply-refuses y w = (
+    c .gives .says ∙ ap (λ (o : judge.Answer Form). returned (replyGiven (toldBy m o))) w,
+    c .left ∙ ap (λ (o : judge.Answer Form). over (cells (cookiesOf o)) table) w ∙ over-none table,
+    c .gives .left ∙ ap (λ (o : judge.Answer Form). held (replyGiven (toldBy m o)) lent) w,
+  )
+
+abbrev pub hosted-reply : Hosted Form Shown
+hosted-reply = record {
+  reading = replyOf;
+  shows = λ m q. mapForm (bodyIn m) q;
+  Reads = ReadsReply;
+  hand = replyInHand;
+  inHand = inHand;
+  grants = reply-grants;
+  refuses = reply-refuses;
+  numbered = reply-numbered;
+}
