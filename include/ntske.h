@@ -87,8 +87,11 @@ extern "C" {
 #define NTSKE_MOST_COOKIES 8
 #define NTSKE_FIELD_HEADER 3
 
-/* The bytes of an output that holds every listing. */
-#define NTSKE_LISTING 400000
+/*
+ * The bytes of an output that holds every listing. That none is longer is proved: listing-longest,
+ * in crates/listing/proofs/Longest.antt.
+ */
+#define NTSKE_LISTING 262272
 
 /* To be lent with the length 0, where there are no bytes or no numbers. */
 static const uint16_t ntske_none[1] = {0};

@@ -675,14 +675,14 @@ static void listing(void)
     list("fixed keys of another algorithm", join(H("8001 0002 0000 8004 0002 0010"), join(keys, rest)), NTSKE_LIMIT, 0,
          T("place type bit size\n0 1 c 2\n6 4 c 2\n12 12 c 64\n80 14 - 0\n84 0 c 0\nrefused 5 at 84 code 16\n"));
 
-    /* the longest: 16,383 records, whose lines are as long as such a line can be */
+    /* 16,383 records, whose lines are as long as such a line can be */
     char *text = (char *)take(NTSKE_LISTING);
     size_t n = (size_t)sprintf(text, "place type bit size\n");
     for (unsigned i = 0; i < 16383; i++)
         n += (size_t)sprintf(text + n, "%u 32767 - 0\n", 4 * i);
     sprintf(text + n, "refused 1 at 65532\n");
-    list("the longest listing", times(16384, H("7FFF 0000")), NTSKE_LIMIT, 0, T(text));
-    check(strlen(text) <= NTSKE_LISTING, "the longest listing", "length", strlen(text));
+    list("as many records as can be read", times(16384, H("7FFF 0000")), NTSKE_LIMIT, 0, T(text));
+    check(strlen(text) <= NTSKE_LISTING, "as many records as can be read", "length", strlen(text));
 }
 
 static void choosing(void)

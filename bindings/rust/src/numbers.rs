@@ -15,8 +15,9 @@ pub const EXPORTER_LABEL: &str = "EXPORTER-network-time-security";
 /// The largest limit of a reader.
 pub const LIMIT: u16 = 65_535;
 
-/// The length of an output that holds every listing: see [`Message::list`](crate::Message::list).
-pub const LISTING: usize = 400_000;
+/// The length of an output that holds every listing: see [`Message::list`](crate::Message::list). That none is longer is
+/// proved: `listing-longest`, in crates/listing/proofs/Longest.antt.
+pub const LISTING: usize = 262_272;
 
 /// This package's version, a byte each: 0x000200 for 0.2.0. [`version`] tells the archive's.
 pub const VERSION: u64 = {

@@ -2,12 +2,10 @@
 -- Assumes nothing.
 use mathlib.Core.Path.{_≡_, refl, sym, ap, subst, _∙_}
 use mathlib.Core.List.{List, [], _∷_}
-use mathlib.Core.Bool.{Bool, true, false, cond}
 use Prim.Native.Nat.{ℕ, _+_, _*_, _/_, _%_, _<_, _≤_}
 use native.Mathlib.Omega.{arith}
-use lib.Dec.{ltb}
 use Rattle.wire.specs.Over.{over}
-use Rattle.nts.specs.Refusal.{Beside, nothing, Refused}
+use Rattle.nts.specs.Refusal.{Beside, Refused}
 use Rattle.layout.specs.Write.{Count, bytes, refused, fitted, toldCount, leftBy, Wrote}
 use Rattle.layout.specs.declared.ByteCount.{ByteCount}
 use Rattle.cells.specs.Cells.{besideNumber, word, unplaced, Given, cells, refuses, Gives, counted, Writes}
@@ -56,11 +54,16 @@ unfolding leftBy
 writes-kept {a = bytes n} p h = absurd (h (p .gives .says))
 writes-kept {a = refused k b} p h = (p .wrote, p .gives .left)
 
--- it tells the number, the number beside it, and the place
+-- it tells the number ..
+pub number-in : (y : Refused) → y .number < 65536 → word y % 65536 ≡ y .number
+unfolding word
+number-in y n = omega arith
+
+-- .. and, where the number beside it has sixteen bits, that and the place
 pub apart : (y : Refused) → y .number < 65536 → besideNumber (y .beside) < 65536
     → (word y % 65536 ≡ y .number) × (word y / 65536 % 65536 ≡ besideNumber (y .beside)) × (word y / 4294967296 ≡ y .place)
 unfolding word
-apart y n b = (omega arith, omega arith, omega arith)
+apart y n b = (number-in y n, omega arith, omega arith)
 
 -- ---- a word that is 0
 
@@ -73,32 +76,18 @@ abbrev pub Sure : Given → Type 0
 Sure (cells c) = Unit {0}
 Sure (refuses y) = 1 ≤ y .number
 
-abbrev pub SureCount : Count → Type 0
-SureCount (bytes n) = Unit {0}
-SureCount (refused k b) = 1 ≤ k
-
 -- so something is given, and that is what the cells hold ..
 pub gives-granted : {g : Given} {lent after : List ℕ} {r : ℕ} → Gives g lent r after → Sure g → r ≡ 0 → g ≡ cells after
 gives-granted {g = cells c} p s z = ap cells (sym (p .left))
 gives-granted {g = refuses y} p s z = absurd (word-some y s (sym (p .says) ∙ z))
 
-pub counted-granted : {a : Count} {lent after : List ℕ} {r : ℕ} → Gives (counted a) lent r after → SureCount a → r ≡ 0 → (n : ℕ) × (a ≡ bytes n) × (after ≡ n ∷ [])
+pub counted-granted : {a : Count} {lent after : List ℕ} {r : ℕ} → Gives (counted a) lent r after → Sure (counted a) → r ≡ 0 → (n : ℕ) × (a ≡ bytes n) × (after ≡ n ∷ [])
 counted-granted {a = bytes n} p s z = (n, refl, p .left)
 counted-granted {a = refused k b} p s z = absurd (word-some (unplaced k b) s (sym (p .says) ∙ z))
 
 -- .. and something is written
-pub writes-granted : {a : Count} {b o lent o′ after : List ℕ} {r : ℕ} → Writes a b o lent r o′ after → SureCount a → r ≡ 0
+pub writes-granted : {a : Count} {b o lent o′ after : List ℕ} {r : ℕ} → Writes a b o lent r o′ after → Sure (counted a) → r ≡ 0
     → (n : ℕ) × (a ≡ bytes n) × (o′ ≡ over b o) × (after ≡ n ∷ [])
 unfolding leftBy
 writes-granted {a = bytes n} p s z = (n, refl, p .wrote, p .gives .left)
 writes-granted {a = refused k b} p s z = absurd (word-some (unplaced k b) s (sym (p .gives .says) ∙ z))
-
--- one of two counts, and a count that must fit
-pub count-if : (t : Bool) (a b : Count) → SureCount a → SureCount b → SureCount (cond t a b)
-count-if true a b p q = p
-count-if false a b p q = q
-
-pub count-fitted : (room : ℕ) (a : Count) → SureCount a → SureCount (fitted room a)
-unfolding fitted
-count-fitted room (bytes n) s = count-if (ltb room n) (refused 10 nothing) (bytes n) (omega arith) tt
-count-fitted room (refused k b) s = s

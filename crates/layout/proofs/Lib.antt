@@ -1,3 +1,4 @@
+pub mod Table
 pub mod Writing
 pub mod Apart
 pub mod Same

@@ -2,6 +2,7 @@
 -- Assumes nothing.
 use mathlib.Core.Path.{_≡_, sym, _∙_}
 use denote.Ref.{now}
+use Rattle.wire.proofs.Bytes.{part-of-same}
 use Rattle.wire.proofs.Over.{tried-same}
 use Rattle.layout.proofs.Apart.{count-apart, wrote-same}
 use Rattle.layout.proofs.Part.of.Reads as of
@@ -9,8 +10,8 @@ use Rattle.layout.proofs.Layout.write.Reads as write
 use Rattle.layout.proofs.Layout.length.Reads as length
 use Rattle.layout.proofs.put_header.Reads as put-header
 
-pub Part-of-same : (κs : _) (a : _) (r r′ : _) (e e′ : _) → of.Learnt κs a r e → of.Learnt κs a r′ e′ → now r ≡ now r′
-Part-of-same κs a r r′ e e′ p q = p ∙ sym q
+pub Part-of-same : (κs : _) (a : _) (r r′ : _) (e e′ : _) → of.Learnt κs a r e → of.Learnt κs a r′ e′ → (now r ≡ now r′) × (r .ptr ≡ r′ .ptr)
+Part-of-same κs a r r′ e e′ p q = part-of-same p q
 
 pub Layout-length-same : (κs : _) (a : _) (r r′ : _) (e e′ : _) → length.Learnt κs a r e → length.Learnt κs a r′ e′ → r ≡ r′
 Layout-length-same κs a r r′ e e′ p q = count-apart r r′ (p ∙ sym q)

@@ -3,13 +3,14 @@
 use Prim.Native.Nat.{ℕ, _+_, _%_}
 use mathlib.Core.Path.{_≡_}
 use mathlib.Core.List.{List, _++_}
-use mathlib.Core.Bool.{Bool, true, false, cond, _&&_, _||_}
+use mathlib.Core.Bool.{Bool, true, false, cond, _&&_}
 use lib.ListN.{length}
 use lib.Dec.{leb, ltb, eqb}
 use Rattle.wire.specs.Bytes.{partAt}
 use Rattle.wire.specs.Over.{over, bytesOf}
 use Rattle.utf8.specs.Utf8.{wellFormed}
 use Rattle.nts.specs.Refusal.{numberOf, Beside, nothing, besideOf}
+use Rattle.layout.specs.Table.{isUnknown}
 use Rattle.layout.specs.declared.Part.{Part}
 use Rattle.layout.specs.declared.Shape.{Shape}
 use Rattle.layout.specs.declared.Shape.the-variants.{Skipped, Numbers, Number, Bytes, Name, Pairs, Halves, Unknown}
@@ -22,10 +23,6 @@ use Rattle.layout.specs.declared.ByteCount.the-variants as count
 -- a part lies inside n bytes
 unfoldable pub isInside : Part → ℕ → Bool
 isInside p n = leb (p .start + p .len) n
-
--- a number that no known kind has
-unfoldable pub isUnknown : ℕ → Bool
-isUnknown k = eqb k 11 || leb 15 k
 
 -- what a body must be, by what it holds
 unfoldable pub isSound : Shape → ℕ → Part → Part → List ℕ → Bool

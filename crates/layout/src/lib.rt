@@ -4,9 +4,10 @@ ghost use mathlib.Core.Path.{_≡_};
 ghost use mathlib.Core.Bool.{true};
 ghost use Prim.Native.Nat.{_+_, _<_, _≤_, _^_};
 ghost use lib.ListN.{length};
-ghost use Rattle.wire.specs.Bytes.{partAt};
+ghost use Rattle.wire.specs.Bytes.{PartOf};
 ghost use Rattle.wire.specs.Over.{Put, Tried};
-ghost use Rattle.layout.specs.Write.{isInside, isUnknown, isSound, isRecord, isNumber, bodySize, bodyOf, wordOf, header, recordBytes, measured, written, toldCount, Wrote};
+ghost use Rattle.layout.specs.Table.{isUnknown};
+ghost use Rattle.layout.specs.Write.{isInside, isSound, isRecord, isNumber, bodySize, bodyOf, wordOf, header, recordBytes, measured, written, toldCount, Wrote};
 
 // Some bytes of a lent message: where they start in it, and how many there are.
 pub struct Part {
@@ -46,7 +47,7 @@ pub enum ByteCount {
 impl Part {
     // The bytes themselves; none where the part is not inside the message.
     pub fn of(self, message: &[u8]) -> &[u8]
-        ensures { λ r. ⌜ now r ≡ partAt (now (message .entry)) (self .start) (self .len) ⌝ }
+        ensures { λ r. ⌜ PartOf (message .entry) (self .start) (self .len) r ⌝ }
     {
         wire::part(message, self.start, self.len)
     }

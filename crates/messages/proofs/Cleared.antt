@@ -115,19 +115,19 @@ length-both : (xs ys : List (List ℕ)) → length (flat (xs ++ ys)) ≡ length 
 length-both xs ys = ap length (flat-append xs ys) ∙ length-append (flat xs) (flat ys)
 
 -- one record more in front, one alone, and one for each body
-length-front : (k : ℕ) (bit : Bool) (b : List ℕ) (cs : List (List ℕ)) → length (flat (recordWith k bit b ∷ cs)) ≡ 4 + length b + length (flat cs)
-length-front k bit b cs = omega (arith, length-append (recordWith k bit b) (flat cs), length-written k bit b)
+length-front : (k : ℕ) (b : List ℕ) (cs : List (List ℕ)) → length (flat (recordWith k b ∷ cs)) ≡ 4 + length b + length (flat cs)
+length-front k b cs = omega (arith, length-append (recordWith k b) (flat cs), length-written k b)
 
-length-one : (k : ℕ) (bit : Bool) (b : List ℕ) → length (flat (recordWith k bit b ∷ [])) ≡ 4 + length b
-length-one k bit b = omega (arith, length-front k bit b [])
+length-one : (k : ℕ) (b : List ℕ) → length (flat (recordWith k b ∷ [])) ≡ 4 + length b
+length-one k b = omega (arith, length-front k b [])
 
-length-each : (k : ℕ) (bit : Bool) (l : List (List ℕ)) → length (flat (map (recordWith k bit) l)) ≡ 4 * length l + bytesIn l
-length-each k bit [] = refl
-length-each k bit (b ∷ l) = omega (arith, length-front k bit b (map (recordWith k bit) l), length-each k bit l)
+length-each : (k : ℕ) (l : List (List ℕ)) → length (flat (map (recordWith k) l)) ≡ 4 * length l + bytesIn l
+length-each k [] = refl
+length-each k (b ∷ l) = omega (arith, length-front k b (map (recordWith k) l), length-each k l)
 
 -- the end record is the last
 length-message : (cs : List (List ℕ)) → length (messageOf cs) ≡ length (flat cs) + 4
-length-message cs = omega (arith, length-append (flat cs) endRecord, length-written 0 true [])
+length-message cs = omega (arith, length-append (flat cs) endRecord, length-written 0 [])
 
 -- bodies, and records that are there if planned
 length-number : (n : ℕ) → length (bytesOf n) ≡ 2
@@ -140,14 +140,14 @@ length-cells (n ∷ l) = omega (arith, length-append (bytesOf n) (cellBytes l), 
 
 length-server : (y : NameLength) (server : List ℕ) → length server ≡ nameLength y → length (flat (serverRecord y server)) ≡ nameRecord y
 length-server name.None server e = refl
-length-server (name.Bytes n) server e = length-one 6 true server ∙ ap (λ (k : ℕ). 4 + k) e
+length-server (name.Bytes n) server e = length-one 6 server ∙ ap (λ (k : ℕ). 4 + k) e
 
 length-port : (y : Port) → length (flat (portRecord y)) ≡ plans.portRecord y
 length-port port.None = refl
-length-port (port.Number n) = length-one 7 true (bytesOf n) ∙ ap (λ (k : ℕ). 4 + k) (length-number n)
+length-port (port.Number n) = length-one 7 (bytesOf n) ∙ ap (λ (k : ℕ). 4 + k) (length-number n)
 
-length-kept : (y : Bool) → length (flat (ifAsked y (recordWith 8 false []))) ≡ keepAliveRecord y
-length-kept true = length-one 8 false []
+length-kept : (y : Bool) → length (flat (ifAsked y (recordWith 8 []))) ≡ keepAliveRecord y
+length-kept true = length-one 8 []
 length-kept false = refl
 
 -- a reply is as long as its plan says, if the name is
@@ -155,15 +155,15 @@ pub length-reply : (x : Plan) (server : List ℕ) (l : List (List ℕ)) → leng
     → length (messageOf (replyRecords x server l)) ≡ replyLength x l
 unfolding replyLength
 length-reply x server l e =
-    let cookies = map (recordWith 5 false) l in
-    let kept = ifAsked (x .«keep_alive») (recordWith 8 false []) in
+    let cookies = map (recordWith 5) l in
+    let kept = ifAsked (x .«keep_alive») (recordWith 8 []) in
     let more = serverRecord (x .name) server ++ (portRecord (x .port) ++ (kept ++ cookies)) in
     let a = bytesOf (x .algorithm .0) in
     omega (
       arith,
       length-message (replyRecords x server l),
-      length-front 1 true (bytesOf (x .protocol .0)) (recordWith 4 true a ∷ more),
-      length-front 4 true a more,
+      length-front 1 (bytesOf (x .protocol .0)) (recordWith 4 a ∷ more),
+      length-front 4 a more,
       length-number (x .protocol .0),
       length-number (x .algorithm .0),
       length-both (serverRecord (x .name) server) (portRecord (x .port) ++ (kept ++ cookies)),
@@ -172,7 +172,7 @@ length-reply x server l e =
       length-server (x .name) server e,
       length-port (x .port),
       length-kept (x .«keep_alive»),
-      length-each 5 false l,
+      length-each 5 l,
     )
 
 -- a request, and the other replies, are as long as their writers answer
@@ -183,28 +183,28 @@ length-request protocols algorithms l =
     omega (
       arith,
       length-message (requestRecords protocols algorithms l),
-      length-front 1 true (cellBytes protocols) (recordWith 4 true (cellBytes algorithms) ∷ map (recordWith 13 false) l),
-      length-front 4 true (cellBytes algorithms) (map (recordWith 13 false) l),
+      length-front 1 (cellBytes protocols) (recordWith 4 (cellBytes algorithms) ∷ map (recordWith 13) l),
+      length-front 4 (cellBytes algorithms) (map (recordWith 13) l),
       length-cells protocols,
       length-cells algorithms,
-      length-each 13 false l,
+      length-each 13 l,
     )
 
 pub length-no-protocol : length (messageOf noProtocolRecords) ≡ 8
-length-no-protocol = omega (arith, length-message noProtocolRecords, length-one 1 true [])
+length-no-protocol = omega (arith, length-message noProtocolRecords, length-one 1 [])
 
 pub length-no-algorithm : (p : ℕ) → length (messageOf (noAlgorithmRecords p)) ≡ 14
 length-no-algorithm p =
     omega (
       arith,
       length-message (noAlgorithmRecords p),
-      length-front 1 true (bytesOf p) (recordWith 4 true [] ∷ []),
+      length-front 1 (bytesOf p) (recordWith 4 [] ∷ []),
       length-number p,
-      length-one 4 true [],
+      length-one 4 [],
     )
 
 pub length-error : (c : ℕ) → length (messageOf (errorRecords c)) ≡ 10
-length-error c = omega (arith, length-message (errorRecords c), length-one 2 true (bytesOf c), length-number c)
+length-error c = omega (arith, length-message (errorRecords c), length-one 2 (bytesOf c), length-number c)
 
 -- ---- a call that wrote
 

@@ -1,7 +1,7 @@
 -- One record as it is written: its kind, bit and body come back, it is whole, and it has no fault where its body is what its kind asks.
 -- Assumes nothing.
 use mathlib.Core.Path.{_≡_, refl, sym, _∙_, ap}
-use mathlib.Core.Bool.{Bool, true, cond}
+use mathlib.Core.Bool.{Bool, true, false, cond}
 use mathlib.Core.List.{List, [], _∷_, _++_}
 use Prim.Native.Nat.{ℕ, _+_, _≤_}
 use native.Mathlib.Omega.{arith}
@@ -12,6 +12,7 @@ use lib.Seq.{take-all}
 use Rattle.wire.specs.Bytes.{numberAt}
 use Rattle.wire.specs.Over.{bytesOf}
 use Rattle.wire.proofs.Bytes.{number-back, number-drop}
+use Rattle.layout.specs.Table.{rowOf, bitOf}
 use Rattle.layout.specs.Write.{wordOf, header}
 use Rattle.layout.specs.declared.Shape.{Shape}
 use Rattle.layout.specs.declared.Shape.the-variants.{Skipped}
@@ -24,9 +25,12 @@ use Rattle.walk.proofs.Passing.{Last}
 use Rattle.walk.proofs.Written.{Noted, Notes, noted-map}
 use Rattle.messages.specs.Messages.{recordOf, recordWith, endRecord}
 
-module _ (k : ℕ) (bit : Bool) (b : List ℕ) where
+module _ (k : ℕ) (b : List ℕ) where
+  abbrev bit : Bool
+  bit = bitOf k false
+
   abbrev c : List ℕ
-  c = recordWith k bit b
+  c = recordWith k b
 
   word-written : numberAt c 0 ≡ wordOf k bit
   unfolding recordOf header bytesOf
@@ -80,9 +84,10 @@ module _ (k : ℕ) (bit : Bool) (b : List ℕ) where
       -- .. and no other
       pub one-noted : (x : Shape) → R .shape k ≡ x → trip.Good x (length b) b → R .act k bit b ≡ notes
           → Noted R (c ∷ []) (λ j. cond (eqb k j) (b ∷ []) [])
-      one-noted x e g a = noted-map R k (recordWith k bit) (b ∷ []) (notes-written x e g a, tt)
+      one-noted x e g a = noted-map R k (recordWith k) (b ∷ []) (notes-written x e g a, tt)
 
 -- the end record, for every reader that ends with it
 pub last-written : (R : Reader) → R .shape 0 ≡ Skipped → R .act 0 true [] ≡ ends → Last R endRecord
+unfolding bitOf rowOf
 last-written R e a =
-    (whole-written 0 true [], faultless-written 0 true [] (omega arith) R Skipped e tt, act-written 0 true [] (omega arith) R ∙ a)
+    (whole-written 0 [], faultless-written 0 [] (omega arith) R Skipped e tt, act-written 0 [] (omega arith) R ∙ a)

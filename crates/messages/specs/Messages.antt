@@ -1,5 +1,5 @@
--- Whole messages as they are written: 01, "Choosing and replying" ("Order written") and "The record" (the column "Bit written"); the order of a
--- writer's checks: 01, "Numbers a call can refuse with".
+-- Whole messages as they are written: 01, "Choosing and replying" ("Order written"), and the column "Bit written" of 01's table
+-- (layout/specs/Table.antt); the order of a writer's checks: 01, "Numbers a call can refuse with".
 use Prim.Native.Nat.{ℕ, _+_, _*_, _%_}
 use mathlib.Core.List.{List, [], _∷_, _++_, map}
 use mathlib.Core.Bool.{Bool, true, false, cond, _&&_, _||_}
@@ -8,6 +8,7 @@ use lib.Dec.{ltb, eqb}
 use Rattle.wire.specs.Over.{bytesOf}
 use Rattle.utf8.specs.Utf8.{wellFormed}
 use Rattle.nts.specs.Refusal.{nothing}
+use Rattle.layout.specs.Table.{bitOf}
 use Rattle.layout.specs.Write.{wordOf, header, Count, bytes, refused}
 use Rattle.walk.specs.Message.{flat}
 use Rattle.plan.specs.Tray.{Fields, broken, fields, bytesIn}
@@ -25,9 +26,9 @@ use Rattle.messages.specs.declared.Asked.{Asked}
 unfoldable pub recordOf : ℕ → List ℕ → List ℕ
 recordOf word b = header word (length b) ++ b
 
--- of a kind, with its bit
-abbrev pub recordWith : ℕ → Bool → List ℕ → List ℕ
-recordWith k bit b = recordOf (wordOf k bit) b
+-- of a known kind, with the table's bit
+abbrev pub recordWith : ℕ → List ℕ → List ℕ
+recordWith k b = recordOf (wordOf k (bitOf k false)) b
 
 -- a list of numbers from a host's cells
 abbrev pub cellBytes : List ℕ → List ℕ
@@ -39,7 +40,7 @@ abbrev pub ifAsked : Bool → List ℕ → List (List ℕ)
 ifAsked asked r = cond asked (r ∷ []) []
 
 abbrev pub endRecord : List ℕ
-endRecord = recordWith 0 true []
+endRecord = recordWith 0 []
 
 -- records one after the other, and the end record
 abbrev pub messageOf : List (List ℕ) → List ℕ
@@ -62,20 +63,20 @@ bodiesOf (fields l) = l
 
 abbrev pub serverRecord : NameLength → List ℕ → List (List ℕ)
 serverRecord name.None b = []
-serverRecord (name.Bytes n) b = recordWith 6 true b ∷ []
+serverRecord (name.Bytes n) b = recordWith 6 b ∷ []
 
 abbrev pub portRecord : Port → List (List ℕ)
 portRecord port.None = []
-portRecord (port.Number n) = recordWith 7 true (bytesOf n) ∷ []
+portRecord (port.Number n) = recordWith 7 (bytesOf n) ∷ []
 
 abbrev pub replyRecords : Plan → List ℕ → List (List ℕ) → List (List ℕ)
 replyRecords x server cookies =
-    recordWith 1 true (bytesOf (x .protocol .0))
-    ∷ recordWith 4 true (bytesOf (x .algorithm .0))
+    recordWith 1 (bytesOf (x .protocol .0))
+    ∷ recordWith 4 (bytesOf (x .algorithm .0))
     ∷ (serverRecord (x .name) server
     ++ (portRecord (x .port)
-    ++ (ifAsked (x .«keep_alive») (recordWith 8 false [])
-    ++ map (recordWith 5 false) cookies)))
+    ++ (ifAsked (x .«keep_alive») (recordWith 8 [])
+    ++ map (recordWith 5) cookies)))
 
 -- 9 for a broken tray, for a name whose length is not the plan's (0 if none is planned) or that is not UTF-8; then 15 for no cookie. No body
 -- of a reply can be too long: a planned length and a field's length have sixteen bits
@@ -90,22 +91,22 @@ replyChecked x server (fields l) =
 
 -- no protocol: empty 1, 0
 abbrev pub noProtocolRecords : List (List ℕ)
-noProtocolRecords = recordWith 1 true [] ∷ []
+noProtocolRecords = recordWith 1 [] ∷ []
 
 -- no algorithm: 1 with the protocol, empty 4, 0
 abbrev pub noAlgorithmRecords : ℕ → List (List ℕ)
-noAlgorithmRecords p = recordWith 1 true (bytesOf p) ∷ recordWith 4 true [] ∷ []
+noAlgorithmRecords p = recordWith 1 (bytesOf p) ∷ recordWith 4 [] ∷ []
 
 -- error: 2, 0
 abbrev pub errorRecords : ℕ → List (List ℕ)
-errorRecords c = recordWith 2 true (bytesOf c) ∷ []
+errorRecords c = recordWith 2 (bytesOf c) ∷ []
 
 -- support: 10 if asked, 9 if asked, 8 if asked, 0; pairs and numbers from the host's cells
 abbrev pub supportRecords : Asked → List ℕ → List ℕ → List (List ℕ)
 supportRecords x pairs numbers =
-    ifAsked (x .algorithms) (recordWith 10 true (cellBytes pairs))
-    ++ (ifAsked (x .protocols) (recordWith 9 true (cellBytes numbers))
-    ++ ifAsked (x .«keep_alive») (recordWith 8 false []))
+    ifAsked (x .algorithms) (recordWith 10 (cellBytes pairs))
+    ++ (ifAsked (x .protocols) (recordWith 9 (cellBytes numbers))
+    ++ ifAsked (x .«keep_alive») (recordWith 8 []))
 
 abbrev pub recordLength : Bool → ℕ → ℕ
 recordLength asked n = cond asked (4 + n) 0
@@ -127,7 +128,7 @@ supportChecked x pairs numbers =
 
 abbrev pub requestRecords : List ℕ → List ℕ → List (List ℕ) → List (List ℕ)
 requestRecords protocols algorithms names =
-    recordWith 1 true (cellBytes protocols) ∷ recordWith 4 true (cellBytes algorithms) ∷ map (recordWith 13 false) names
+    recordWith 1 (cellBytes protocols) ∷ recordWith 4 (cellBytes algorithms) ∷ map (recordWith 13) names
 
 abbrev pub allUtf8 : List (List ℕ) → Bool
 allUtf8 [] = true

@@ -3,7 +3,6 @@
 use record::NtsRecord;
 ghost use mathlib.Core.Path.{_≡_};
 ghost use mathlib.Core.List.{[]};
-ghost use mathlib.Core.Bool.{false};
 ghost use Prim.Native.Nat.{_*_, _≤_};
 ghost use lib.ListN.{length};
 ghost use Rattle.wire.specs.Over.{bytesOf, Put, Tried};
@@ -118,7 +117,7 @@ fn put_cells(cells: &[u16], out: &mut [u8]) -> usize
 
 // The record that keeps a connection, if it is asked for.
 pub fn put_keep_alive(asked: bool, out: &mut [u8]) -> usize
-    ensures { λ r. ⌜ Tried (keepAliveRecord asked) (flat (ifAsked asked (recordWith 8 false []))) (now (out .entry)) r (now (out .exit)) ⌝ }
+    ensures { λ r. ⌜ Tried (keepAliveRecord asked) (flat (ifAsked asked (recordWith 8 []))) (now (out .entry)) r (now (out .exit)) ⌝ }
 {
     if asked {
         return put_empty(KEEP_ALIVE, out);

@@ -1,7 +1,7 @@
 -- A name and a port where they are planned; and records put one after the other as a message's bytes.
 -- Assumes nothing.
 use mathlib.Core.Path.{_≡_, sym, ap, subst, _∙_}
-use mathlib.Core.Bool.{true}
+use mathlib.Core.Bool.{false}
 use mathlib.Core.List.{List, _∷_, _++_, append-assoc}
 use Prim.Native.Nat.{ℕ, _+_, _≤_}
 use lib.ListN.{length}
@@ -16,20 +16,21 @@ use Rattle.plan.specs.declared.NameLength.the-variants as name
 use Rattle.plan.specs.declared.Port.{Port}
 use Rattle.plan.specs.declared.Port.the-variants as port
 use Rattle.messages.specs.Messages.{recordWith, shortRecord, serverRecord, portRecord}
+use Rattle.layout.specs.Table.{bitOf}
 use Rattle.layout.specs.Write.{wordOf}
 use Rattle.messages.proofs.Putting.{tried-none, short-tried, one-record}
 
 -- a name's record where one is planned, and a port's
 module _ (o : List ℕ) where
   pub server-record : {r : ℕ} {o′ : List ℕ} (b : List ℕ) (x : NameLength) (n : ℕ) → x ≡ name.Bytes n → length b ≡ nameLength x → n ≤ 65535
-      → Tried (length (shortRecord (wordOf 6 true) b)) (shortRecord (wordOf 6 true) b) o r o′ → Tried (nameRecord x) (flat (serverRecord x b)) o r o′
+      → Tried (length (shortRecord (wordOf 6 (bitOf 6 false)) b)) (shortRecord (wordOf 6 (bitOf 6 false)) b) o r o′ → Tried (nameRecord x) (flat (serverRecord x b)) o r o′
   server-record {r} {o′} b x n e l h p =
-      subst (λ (y : NameLength). Tried (nameRecord y) (flat (serverRecord y b)) o r o′) (sym e) (one-record (short-tried (wordOf 6 true) b n (l ∙ ap nameLength e) h p))
+      subst (λ (y : NameLength). Tried (nameRecord y) (flat (serverRecord y b)) o r o′) (sym e) (one-record (short-tried (wordOf 6 (bitOf 6 false)) b n (l ∙ ap nameLength e) h p))
 
   pub no-server : (b : List ℕ) (x : NameLength) → x ≡ name.None → Tried (nameRecord x) (flat (serverRecord x b)) o 0 o
   no-server b x e = subst (λ (y : NameLength). Tried (nameRecord y) (flat (serverRecord y b)) o 0 o) (sym e) (tried-none o)
 
-  pub port-record : {r : ℕ} {o′ : List ℕ} (x : Port) (n : ℕ) → x ≡ port.Number n → Tried 6 (recordWith 7 true (bytesOf n)) o r o′ → Tried (plans.portRecord x) (flat (portRecord x)) o r o′
+  pub port-record : {r : ℕ} {o′ : List ℕ} (x : Port) (n : ℕ) → x ≡ port.Number n → Tried 6 (recordWith 7 (bytesOf n)) o r o′ → Tried (plans.portRecord x) (flat (portRecord x)) o r o′
   port-record {r} {o′} x n e p = subst (λ (y : Port). Tried (plans.portRecord y) (flat (portRecord y)) o r o′) (sym e) (one-record p)
 
   pub no-port : (x : Port) → x ≡ port.None → Tried (plans.portRecord x) (flat (portRecord x)) o 0 o

@@ -9,7 +9,6 @@ use record::ByteCount;
 use record::NtsRecord;
 ghost use mathlib.Core.Path.{_≡_};
 ghost use mathlib.Core.List.{List, [], _++_, map};
-ghost use mathlib.Core.Bool.{false};
 ghost use Prim.Native.Nat.{ℕ, _+_, _*_, _≤_};
 ghost use lib.ListN.{length};
 ghost use Rattle.wire.specs.Over.{Put, Tried};
@@ -174,7 +173,7 @@ fn put_port(port: Port, out: &mut [u8]) -> usize
 fn put_options(plan: Plan, server: &[u8], out: &mut [u8]) -> usize
     requires { ⌜ (length (now server) ≡ plans.nameLength (plan .name)) × (nameRecord (plan .name) + plans.portRecord (plan .port) + keepAliveRecord (plan .«keep_alive») ≤ length (now out)) ⌝ }
     ensures { λ r. ⌜ Tried (nameRecord (plan .name) + plans.portRecord (plan .port) + keepAliveRecord (plan .«keep_alive»))
-        (flat (serverRecord (plan .name) (now (server .entry)) ++ (portRecord (plan .port) ++ ifAsked (plan .«keep_alive») (recordWith 8 false [])))) (now (out .entry)) r (now (out .exit)) ⌝ }
+        (flat (serverRecord (plan .name) (now (server .entry)) ++ (portRecord (plan .port) ++ ifAsked (plan .«keep_alive») (recordWith 8 [])))) (now (out .entry)) r (now (out .exit)) ⌝ }
 {
     let name = plan.name;
     let port = plan.port;

@@ -1,18 +1,15 @@
--- The table's cells: how many there are, one pair stored behind those before it, and no bytes past the last pair.
+-- The table's cells: how many there are, and one pair stored behind those before it.
 -- Assumes nothing.
 use mathlib.Core.Path.{_≡_, refl, sym, ap, _∙_}
 use mathlib.Core.List.{List, [], _∷_, _++_}
-use mathlib.Core.Bool.{Bool, true, false, cond}
 use Prim.Native.Nat.{ℕ, _+_, _*_, _≤_}
 use native.Mathlib.Omega.{arith}
-use lib.ListN.{length, getD, set, take, drop, length-append, List·getD-eq-default}
+use lib.ListN.{length, getD, set, take, length-append}
 use lib.Seq.{take-at, take-all, getD-append-add}
-use lib.Dec.{leb}
-use Rattle.wire.specs.Bytes.{partAt}
 use Rattle.wire.specs.Over.{over}
 use Rattle.wire.proofs.Over.{over-more}
 use Rattle.walk.specs.Walk.{Sighting}
-use Rattle.places.specs.Places.{cells, roomOf, entryIn}
+use Rattle.places.specs.Places.{cells}
 
 pub cells-length : (d : List Sighting) → length (cells d) ≡ 2 * length d
 cells-length [] = refl
@@ -41,19 +38,3 @@ pair-stored d x o h =
     let whole : take (i + 1 + 1) (c ++ two) ≡ c ++ two = take-all (i + 1 + 1) (c ++ two) (omega arith) in
     let both : set (over (take (i + 1) (c ++ two)) o) (i + 1) (x .len) ≡ over (c ++ two) o = rw (b, whole) at (over-more (c ++ two) o (i + 1) (omega arith) (omega arith)) in
     ap (λ (t : List ℕ). set t (i + 1) (x .len)) one ∙ both ∙ ap (λ (y : List ℕ). over y o) (sym (cells-more d x))
-
--- ---- past the last pair of cells an entry is empty
-
-no-bytes : (m : List ℕ) (a : ℕ) → partAt m a 0 ≡ []
-unfolding partAt
-no-bytes m a = go (leb (a + 0) (length m))
-  where
-    go : (b : Bool) → _≡_ {A = List ℕ} (cond b (take 0 (drop a m)) []) []
-    go true = refl
-    go false = refl
-
-pub no-entry : (m table : List ℕ) (i : ℕ) → roomOf table ≤ i → partAt m 0 0 ≡ entryIn m table i
-unfolding entryIn
-no-entry m table i h =
-    let z = List·getD-eq-default table 0 {n = 2 * i + 1} (omega arith) in
-    no-bytes m 0 ∙ sym (rw z (no-bytes m (getD table (2 * i) 0)))

@@ -6,6 +6,7 @@ use mathlib.Core.List.{List, [], _∷_, _++_, map, append-assoc}
 use Prim.Native.Nat.{ℕ, _+_, _*_, _≤_}
 use native.Mathlib.Omega.{arith}
 use borrow.Author.Tests.{le-leb}
+use denote.Ref.{RefT, now}
 use lib.ListN.{length, getD, drop, length-append, length-drop}
 use lib.Seq.{length-take-le, getD-at, getD-append-add}
 use Rattle.wire.specs.Bytes.{partAt}
@@ -13,7 +14,7 @@ use Rattle.wire.specs.Over.{over}
 use Rattle.walk.specs.Walk.{Sighting}
 use Rattle.walk.specs.Judge.{bodyIn}
 use Rattle.walk.proofs.Noted.{Inside}
-use Rattle.places.specs.Places.{cells, entryIn, entriesFrom}
+use Rattle.places.specs.Places.{cells, entryIn, EntryOf, entriesFrom}
 
 module _ (m : List ℕ) (x : Sighting) (h : x .start + x .len ≤ length m) where
   pub body-length : length (bodyIn m x) ≡ x .len
@@ -22,6 +23,11 @@ module _ (m : List ℕ) (x : Sighting) (h : x .start + x .len ≤ length m) wher
   pub part-body : partAt m (x .start) (x .len) ≡ bodyIn m x
   unfolding partAt
   part-body = rw (le-leb (x .start + x .len) (length m) h)
+
+-- what `places::entry` refers to is the entry
+pub entry-holds : {m r : RefT (List ℕ)} (table : List ℕ) (i : ℕ) → EntryOf m table i r → now r ≡ entryIn (now m) table i
+unfolding entryIn
+entry-holds table i p = p .holds
 
 module _ (m rest : List ℕ) where
   entries-behind : (front : List ℕ) (i : ℕ) (d : List Sighting) → length front ≡ 2 * i → Inside (length m) d

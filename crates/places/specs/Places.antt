@@ -4,9 +4,10 @@ use Prim.Native.Nat.{ℕ, zero, suc, _+_, _*_, _/_, _≤_}
 use mathlib.Core.Path.{_≡_}
 use mathlib.Core.List.{List, [], _∷_, _++_}
 use mathlib.Core.Bool.{Bool, cond, _||_}
+use denote.Ref.{RefT}
 use lib.ListN.{length, getD, take, drop}
 use lib.Dec.{ltb, eqb}
-use Rattle.wire.specs.Bytes.{partAt}
+use Rattle.wire.specs.Bytes.{partAt, PartOf}
 use Rattle.wire.specs.Over.{over}
 use Rattle.nts.specs.Refusal.{nothing, Refused, toldRefusal}
 use Rattle.record.specs.Record.{kind, size}
@@ -25,6 +26,10 @@ roomOf table = length table / 2
 -- the body at an index of a table, as part of the message; a cell that is not there counts as 0
 unfoldable pub entryIn : List ℕ → List ℕ → ℕ → List ℕ
 entryIn m table i = partAt m (getD table (2 * i) 0) (getD table (2 * i + 1) 0)
+
+-- r refers to it in the message that m refers to
+abbrev pub EntryOf : RefT (List ℕ) → List ℕ → ℕ → RefT (List ℕ) → Type 0
+EntryOf m table i r = PartOf m (getD table (2 * i) 0) (getD table (2 * i + 1) 0) r
 
 -- so many of them, from an index on
 abbrev pub entriesFrom : List ℕ → List ℕ → ℕ → ℕ → List (List ℕ)

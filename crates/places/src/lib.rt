@@ -6,7 +6,7 @@ ghost use mathlib.Core.Path.{_≡_};
 ghost use Prim.Native.Nat.{_*_, _<_, _≤_};
 ghost use lib.ListN.{length, drop};
 ghost use Rattle.walk.specs.Judge.{some};
-ghost use Rattle.places.specs.Places.{entryIn, placesFrom, Holds, Fills};
+ghost use Rattle.places.specs.Places.{EntryOf, placesFrom, Holds, Fills};
 
 // The most that a cell counts.
 const CELL: usize = 65535;
@@ -26,12 +26,17 @@ struct Held {
 
 // The body at an index of a table that was filled from the message; empty where the index or the cells point outside.
 pub fn entry<'a>(message: &'a [u8], table: &[u16], index: usize) -> &'a [u8]
-    ensures { λ r. ⌜ now r ≡ entryIn (now (message .entry)) (now (table .entry)) index ⌝ }
+    ensures { λ r. ⌜ EntryOf (message .entry) (now (table .entry)) index r ⌝ }
 {
     if index < table.len() / 2 {
         let at = 2 * index;
         let next = at + 1;
         return wire::part(message, table[at] as usize, table[next] as usize);
+    }
+    // a last cell that has no length behind it
+    if index < (table.len() + 1) / 2 {
+        let last = 2 * index;
+        return wire::part(message, table[last] as usize, 0);
     }
     wire::part(message, 0, 0)
 }

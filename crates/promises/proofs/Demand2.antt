@@ -1,5 +1,5 @@
--- Demand 2's round trip of one record: the theorems over the definitions of record/specs (Record.antt, Write.antt, Shown.antt), and for each
--- what it says of calls of record::NtsRecord::serialize, length and parse, of their answers and of the output afterwards.
+-- Demand 2's round trip of one record: the theorems over the definitions of record/specs (Record.antt, Laid.antt, Shown.antt) and layout/specs (Table.antt, Write.antt),
+-- and for each what it says of calls of record::NtsRecord::serialize, length and parse, of their answers and of the output afterwards.
 -- Assumes nothing.
 use mathlib.Core.Path.{_≡_, refl, sym, ap, _∙_}
 use mathlib.Core.List.{List, [], _∷_, _++_}
@@ -15,16 +15,18 @@ use Rattle.utf8.proofs.Tests.{on}
 use Rattle.wire.specs.Over.{over, bytesOf}
 use Rattle.wire.proofs.Bytes.{number-back}
 use Rattle.nts.specs.Refusal.{nothing}
-use Rattle.layout.specs.Write.{wordOf, header, recordBytes, Count, bytes, refused, toldCount, measured, fitted, written, leftBy, Wrote}
+use Rattle.layout.specs.Table.{bitOf, isUnknown}
+use Rattle.layout.specs.Write.{isRecord, bodySize, wordOf, header, recordBytes, Count, bytes, refused, toldCount, measured, fitted, written, leftBy, Wrote}
 use Rattle.layout.specs.declared.Layout.{Layout}
 use Rattle.layout.specs.declared.ByteCount.{ByteCount}
 use Rattle.layout.specs.declared.ByteCount.the-variants.{Bytes}
 use Rattle.layout.proofs.Apart.{count-apart}
-use Rattle.layout.proofs.Writing.{length-body, measured-long}
+use Rattle.layout.proofs.Table.{skipped-numbers, known-bit}
+use Rattle.layout.proofs.Writing.{length-body, just-long, measured-long}
 use Rattle.record.specs.Record.{kindOf, criticalOf, kind, critical, Seen, read, readAt}
-use Rattle.record.specs.Told.{toldRecord, toldParsed}
+use Rattle.record.specs.Told.{kindOfRecord, toldRecord, toldParsed}
 use Rattle.record.specs.Laid.{layoutOf}
-use Rattle.record.specs.Shown.{shown, bitOf, canonical}
+use Rattle.record.specs.Shown.{shown, givenBit, canonical}
 use Rattle.record.specs.declared.NtsRecord.{NtsRecord}
 use Rattle.record.specs.declared.Reading.{Reading}
 use Rattle.record.specs.declared.Parsed.{Parsed}
@@ -46,8 +48,8 @@ module _ (x : NtsRecord) (s : List ℕ) (n : ℕ) (w : measured (layoutOf x) s �
       × (shown y (p ++ (recordBytes (layoutOf x) s ++ t)) ≡ shown (toldRecord x) s)
   written-read = trip.written-read x s n w
 
-  -- the bit that stands there is the one of the table, and of an unknown record the one given
-  pub written-bit : (t : List ℕ) → critical (recordBytes (layoutOf x) s ++ t) ≡ layoutOf x .critical
+  -- the bit that stands there is the table's, and of an unknown record the one given
+  pub written-bit : (t : List ℕ) → critical (recordBytes (layoutOf x) s ++ t) ≡ bitOf (kindOfRecord x) (givenBit x)
   written-bit = trip.written-bit x s n w
 
   -- and the answer is how many bytes they are
@@ -56,6 +58,10 @@ module _ (x : NtsRecord) (s : List ℕ) (n : ℕ) (w : measured (layoutOf x) s �
   written-length =
       let l = measured-long (layoutOf x) s n (sym w) in
       omega (arith, length-body (layoutOf x) s (l .is))
+
+-- of a known kind the table's bit is the same for whatever is given
+pub table-bit : (x : NtsRecord) (bit : Bool) → isUnknown (kindOfRecord x) ≡ false → bitOf (kindOfRecord x) (givenBit x) ≡ bitOf (kindOfRecord x) bit
+table-bit x bit e = known-bit (kindOfRecord x) (givenBit x) bit e
 
 -- ---- over the definitions: what is read is written back
 
@@ -89,16 +95,16 @@ module _ (b : List ℕ) where
   -- the size and the body of any kind but 0 and 8 are the same
   pub canonical-rest : (kind b ≡ 0 → ⊥) → (kind b ≡ 8 → ⊥) → drop 2 (canonical b) ≡ drop 2 b
   unfolding canonical bytesOf
-  canonical-rest i j = rw (ne-eqb (kind b) 0 i, ne-eqb (kind b) 8 j)
+  canonical-rest i j = rw (skipped-numbers (kind b), ne-eqb (kind b) 0 i, ne-eqb (kind b) 8 j)
 
   -- of those two the size is 0, and there is no body
   pub canonical-end : kind b ≡ 0 → drop 2 (canonical b) ≡ 0 ∷ 0 ∷ []
   unfolding canonical bytesOf
-  canonical-end e = rw e
+  canonical-end e = rw (skipped-numbers (kind b), e)
 
   pub canonical-keep-alive : kind b ≡ 8 → drop 2 (canonical b) ≡ 0 ∷ 0 ∷ []
   unfolding canonical bytesOf
-  canonical-keep-alive e = rw e
+  canonical-keep-alive e = rw (skipped-numbers (kind b), e)
 
 -- ---- calls, with their answers: what each function's own contract says of them
 
@@ -177,6 +183,23 @@ module _ (l : Layout) (s o : List ℕ) where
       let a : toldCount r ≡ bytes k = w .says ∙ rw (e, le-ltb (length o) k h) in
       (count-apart r (Bytes k) a, w .left ∙ rw (e, le-ltb (length o) k h))
 
+-- ---- of calls: 01's domain for writing, each record that refusal 9 does not name and whose body is at most 65,535 bytes
+
+-- every record of 01's domain is written where there is room: every call of serialize answers its exact length, and its bytes stand at the output's front
+pub serialize-writes : (x : NtsRecord) (s o : List ℕ) (r : ByteCount) (o′ : List ℕ) → Serialized x s o r o′
+    → isRecord (layoutOf x) s ≡ true → bodySize (layoutOf x) ≤ 65535 → 4 + bodySize (layoutOf x) ≤ length o
+    → (r ≡ Bytes (4 + bodySize (layoutOf x))) × (o′ ≡ over (recordBytes (layoutOf x) s) o)
+serialize-writes x s o r o′ c is fits room =
+    let l = layoutOf x in
+    wrote-room l s o r o′ (4 + bodySize l) (wrote x s o r o′ c) (sym (just-long l s is fits)) room
+
+-- and measured whatever the room: every call of length answers its exact length
+pub length-measures : (x : NtsRecord) (s : List ℕ) (r : ByteCount) → Measured x s r → isRecord (layoutOf x) s ≡ true → bodySize (layoutOf x) ≤ 65535
+    → r ≡ Bytes (4 + bodySize (layoutOf x))
+length-measures x s r c is fits =
+    let l = layoutOf x in
+    count-apart r (Bytes (4 + bodySize l)) (counted x s r c ∙ sym (just-long l s is fits))
+
 -- ---- of calls: what serialize wrote, parse reads
 
 -- serialize on the record x, its parts in s, answered n and left o′ of the output o
@@ -214,8 +237,8 @@ module _ (x : NtsRecord) (s o : List ℕ) (n : ℕ) (o′ : List ℕ) (c : Seria
       let f : take n o′ ≡ b = ap (take n) (w .2) ∙ take-at b (drop (length b) o) n (w .0) in
       reads-back p t (p ++ (take n o′ ++ t)) (ap (λ (a : List ℕ). p ++ (a ++ t)) f) r k
 
-  -- the bit in the output is the one of the table, and of an unknown record the one given
-  pub serialize-bit : critical o′ ≡ layoutOf x .critical
+  -- the bit in the output is the table's, and of an unknown record the one given
+  pub serialize-bit : critical o′ ≡ bitOf (kindOfRecord x) (givenBit x)
   unfolding over
   serialize-bit =
       let w = wrote-bytes (layoutOf x) s o o′ n (wrote x s o (Bytes n) o′ c) in

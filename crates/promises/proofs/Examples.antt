@@ -11,14 +11,15 @@ use Rattle.wire.specs.Bytes.{numberAt}
 use Rattle.utf8.specs.Utf8 as utf8
 use Rattle.nts.specs.Refusal.{nothing}
 use Rattle.nts.specs.Algorithm.{describe}
-use Rattle.record.specs.Record.{kindOf, criticalOf, kind, critical, size, there, shapeOf, short, uneven, notNumber, notHalves, notUtf8, firstOf, notName, faultOf}
+use Rattle.layout.specs.Table.{rowOf, shapeOf, isUnknown}
+use Rattle.record.specs.Record.{kindOf, criticalOf, kind, critical, size, there, short, uneven, notNumber, notHalves, notUtf8, firstOf, notName, faultOf}
 use Rattle.walk.specs.Walk.{Sighting, faultIn, actIn, has, meet, judge, step, walk}
-use Rattle.walk.specs.Judge.{refused, accepted, finish, readBy}
+use Rattle.walk.specs.Judge.{Under, refused, accepted, finish, readBy}
 use Rattle.walk.specs.Message.{Whole, Record, End, Each, message, Parts}
 use Rattle.walk.specs.Table.{known, actBy}
+use Rattle.walk.proofs.Demand3.{Showing}
 use Rattle.request.specs.Request.{act, once, Form, keyExchange, fixedKey, support, keyed, fixedBy, decide, request}
-use Rattle.request.proofs.Order.{Shows}
-use Rattle.promises.proofs.Demand3.{accepted-is, reordered, inserted, inserted-critical}
+use Rattle.request.proofs.Order.{shows, reading, request-ordered}
 
 -- ---- records
 
@@ -38,6 +39,10 @@ name-a = 0 ∷ 13 ∷ 0 ∷ 1 ∷ 97 ∷ []
 
 abbrev name-b : List ℕ
 name-b = 0 ∷ 13 ∷ 0 ∷ 1 ∷ 98 ∷ []
+
+-- "a" once more, with its bit set
+abbrev name-a-set : List ℕ
+name-a-set = 128 ∷ 13 ∷ 0 ∷ 1 ∷ 97 ∷ []
 
 abbrev pub keep-alive : List ℕ
 keep-alive = 0 ∷ 8 ∷ 0 ∷ 0 ∷ []
@@ -67,6 +72,10 @@ unknown-set = 192 ∷ 0 ∷ 0 ∷ 1 ∷ 7 ∷ []
 abbrev pub tail : List ℕ
 tail = 1 ∷ 2 ∷ 3 ∷ []
 
+-- under a limit of 100 bytes
+abbrev pub asked : ℕ → Under
+asked room = record { limit = 100; room = room }
+
 pub a-record : (c : List ℕ) (k : ℕ) → Whole c → kind c ≡ suc k → Record c
 a-record c k w e = (w, λ z. omega arith)
 
@@ -92,6 +101,16 @@ fixed-order =
     List·Permᴰ·trans (List·Permᴰ·swap refl refl)
     (List·Permᴰ·cons refl (List·Permᴰ·cons refl (List·Permᴰ·cons refl (List·Permᴰ·swap refl refl))))
 
+-- one name denied twice, by records with different bits: they may change places, since their bodies are the same
+abbrev twice : List (List ℕ)
+twice = protocols ∷ name-a ∷ name-a-set ∷ algorithms ∷ []
+
+abbrev twice′ : List (List ℕ)
+twice′ = protocols ∷ name-a-set ∷ name-a ∷ algorithms ∷ []
+
+twice-order : List·Permᴰ twice twice′
+twice-order = List·Permᴰ·cons refl (List·Permᴰ·swap refl refl)
+
 abbrev lists : List (List ℕ)
 lists = authentication ∷ wanted-protocols ∷ keep-alive ∷ []
 
@@ -109,6 +128,9 @@ sighting k start n = record { of = k; start = start; len = n }
 abbrev exchange-answer : Form Sighting
 exchange-answer = keyExchange (sighting 1 4 2) (sighting 4 15 2) (sighting 13 10 1 ∷ sighting 13 21 1 ∷ [])
 
+abbrev twice-answer : Form Sighting
+twice-answer = keyExchange (sighting 1 4 2) (sighting 4 20 2) (sighting 13 10 1 ∷ sighting 13 15 1 ∷ [])
+
 abbrev fixed-answer : Form Sighting
 fixed-answer = fixedKey (sighting 14 72 1) (sighting 12 4 64) (sighting 4 83 2) (sighting 1 77 2) true
 
@@ -118,8 +140,9 @@ lists-answer = support (sighting 14 4 1) true false true
 computed : (request (message exchange end []) 100 2 ≡ accepted exchange-answer)
     × (request (message fixed end []) 100 0 ≡ accepted fixed-answer)
     × (request (message lists end []) 100 0 ≡ accepted lists-answer)
-unfolding numberAt utf8.tail utf8.rows utf8.fits utf8.charSize utf8.octets utf8.wellFormed describe kindOf criticalOf kind critical size there shapeOf short uneven notNumber notHalves notUtf8 firstOf notName faultOf faultIn actIn has meet judge step walk finish readBy known actBy act once keyed fixedBy decide request
-computed = (refl, refl, refl)
+    × (request (message twice end []) 100 2 ≡ accepted twice-answer)
+unfolding numberAt utf8.tail utf8.rows utf8.fits utf8.charSize utf8.octets utf8.wellFormed describe kindOf criticalOf kind critical size there shapeOf short uneven notNumber notHalves notUtf8 firstOf notName faultOf faultIn actIn has meet judge step walk finish readBy known isUnknown rowOf actBy act once keyed fixedBy decide request
+computed = (refl, refl, refl, refl)
 
 -- ---- key exchange, with two denied names
 
@@ -135,23 +158,34 @@ exchange-other : exchange ≡ exchange′ → ⊥
 exchange-other e = let z : _≡_ {A = ℕ} 128 0 = cc in omega arith
 
 exchange-is : Parts Record End (message exchange end []) 100
-exchange-is = accepted-is (message exchange end []) 100 2 exchange-answer (computed .0)
+exchange-is = request-ordered .accepted-is (message exchange end []) (asked 2) exchange-answer (computed .0)
 
-exchange-reordered : Shows (message exchange′ end tail) 100 2 (keyExchange (0 ∷ 0 ∷ []) (0 ∷ 15 ∷ []) ((97 ∷ []) ∷ (98 ∷ []) ∷ []))
-unfolding numberAt kindOf kind
-exchange-reordered = reordered 100 2 exchange exchange′ end [] tail exchange-answer exchange-records the-end exchange-order refl refl (computed .0)
+exchange-reordered : Showing reading shows (message exchange′ end tail) (asked 2) (keyExchange (0 ∷ 0 ∷ []) (0 ∷ 15 ∷ []) ((97 ∷ []) ∷ (98 ∷ []) ∷ []))
+unfolding numberAt kindOf kind size there
+exchange-reordered = request-ordered .reordered (asked 2) exchange exchange′ end [] tail exchange-answer exchange-records the-end exchange-order refl refl (computed .0)
+
+twice-records : Each Record twice
+unfolding numberAt kindOf kind size
+twice-records = (a-record protocols 0 refl refl, (a-record name-a 12 refl refl, (a-record name-a-set 12 refl refl, (a-record algorithms 3 refl refl, tt))))
+
+twice-other : twice ≡ twice′ → ⊥
+twice-other e = let z : _≡_ {A = ℕ} 0 128 = cc in omega arith
+
+twice-reordered : Showing reading shows (message twice′ end tail) (asked 2) (keyExchange (0 ∷ 0 ∷ []) (0 ∷ 15 ∷ []) ((97 ∷ []) ∷ (97 ∷ []) ∷ []))
+unfolding numberAt kindOf kind size there
+twice-reordered = request-ordered .reordered (asked 2) twice twice′ end [] tail twice-answer twice-records the-end twice-order refl refl (computed .3)
 
 -- the unknown record stands just before the algorithms
-exchange-inserted : Shows (message (protocols ∷ name-a ∷ unknown ∷ algorithms ∷ name-b ∷ []) end tail) 100 2 (keyExchange (0 ∷ 0 ∷ []) (0 ∷ 15 ∷ []) ((97 ∷ []) ∷ (98 ∷ []) ∷ []))
-unfolding numberAt kindOf criticalOf kind critical size known
+exchange-inserted : Showing reading shows (message (protocols ∷ name-a ∷ unknown ∷ algorithms ∷ name-b ∷ []) end tail) (asked 2) (keyExchange (0 ∷ 0 ∷ []) (0 ∷ 15 ∷ []) ((97 ∷ []) ∷ (98 ∷ []) ∷ []))
+unfolding numberAt kindOf criticalOf kind critical size known isUnknown shapeOf rowOf
 exchange-inserted =
-    inserted 100 2 (protocols ∷ name-a ∷ []) (algorithms ∷ name-b ∷ []) unknown end [] tail exchange-answer exchange-records the-end refl refl refl (omega arith)
+    request-ordered .inserted (asked 2) (protocols ∷ name-a ∷ []) (algorithms ∷ name-b ∷ []) unknown end [] tail exchange-answer exchange-records the-end refl refl refl (omega arith)
     (computed .0)
 
 exchange-refused : request (message (protocols ∷ name-a ∷ unknown-set ∷ algorithms ∷ name-b ∷ []) end tail) 100 2 ≡ refused (record { number = 3; beside = nothing; place = 11 })
-unfolding numberAt kindOf criticalOf kind critical size known
+unfolding numberAt kindOf criticalOf kind critical size known isUnknown shapeOf rowOf
 exchange-refused =
-    inserted-critical 100 2 (protocols ∷ name-a ∷ []) (algorithms ∷ name-b ∷ []) unknown-set end [] tail exchange-answer exchange-records the-end refl refl refl (omega arith)
+    request-ordered .inserted-critical (asked 2) (protocols ∷ name-a ∷ []) (algorithms ∷ name-b ∷ []) unknown-set end [] tail exchange-answer exchange-records the-end refl refl refl (omega arith)
     (computed .0)
 
 -- ---- fixed keys
@@ -164,20 +198,20 @@ fixed-other : fixed ≡ fixed′ → ⊥
 fixed-other e = let z : _≡_ {A = ℕ} 128 0 = cc in omega arith
 
 fixed-is : Parts Record End (message fixed end []) 100
-fixed-is = accepted-is (message fixed end []) 100 0 fixed-answer (computed .1)
+fixed-is = request-ordered .accepted-is (message fixed end []) (asked 0) fixed-answer (computed .1)
 
-fixed-reordered : Shows (message fixed′ end tail) 100 0 (fixedKey (107 ∷ []) two-keys (0 ∷ 15 ∷ []) (0 ∷ 0 ∷ []) true)
-unfolding numberAt kindOf kind
-fixed-reordered = reordered 100 0 fixed fixed′ end [] tail fixed-answer fixed-records the-end fixed-order refl refl (computed .1)
+fixed-reordered : Showing reading shows (message fixed′ end tail) (asked 0) (fixedKey (107 ∷ []) two-keys (0 ∷ 15 ∷ []) (0 ∷ 0 ∷ []) true)
+unfolding numberAt kindOf kind size there
+fixed-reordered = request-ordered .reordered (asked 0) fixed fixed′ end [] tail fixed-answer fixed-records the-end fixed-order refl refl (computed .1)
 
 -- just before the end record
-fixed-inserted : Shows (message (keys ∷ authentication ∷ protocols ∷ algorithms ∷ keep-alive ∷ unknown ∷ []) end tail) 100 0 (fixedKey (107 ∷ []) two-keys (0 ∷ 15 ∷ []) (0 ∷ 0 ∷ []) true)
-unfolding numberAt kindOf criticalOf kind critical size known
-fixed-inserted = inserted 100 0 fixed [] unknown end [] tail fixed-answer fixed-records the-end refl refl refl (omega arith) (computed .1)
+fixed-inserted : Showing reading shows (message (keys ∷ authentication ∷ protocols ∷ algorithms ∷ keep-alive ∷ unknown ∷ []) end tail) (asked 0) (fixedKey (107 ∷ []) two-keys (0 ∷ 15 ∷ []) (0 ∷ 0 ∷ []) true)
+unfolding numberAt kindOf criticalOf kind critical size known isUnknown shapeOf rowOf
+fixed-inserted = request-ordered .inserted (asked 0) fixed [] unknown end [] tail fixed-answer fixed-records the-end refl refl refl (omega arith) (computed .1)
 
 fixed-refused : request (message (keys ∷ authentication ∷ protocols ∷ algorithms ∷ keep-alive ∷ unknown-set ∷ []) end tail) 100 0 ≡ refused (record { number = 3; beside = nothing; place = 89 })
-unfolding numberAt kindOf criticalOf kind critical size known
-fixed-refused = inserted-critical 100 0 fixed [] unknown-set end [] tail fixed-answer fixed-records the-end refl refl refl (omega arith) (computed .1)
+unfolding numberAt kindOf criticalOf kind critical size known isUnknown shapeOf rowOf
+fixed-refused = request-ordered .inserted-critical (asked 0) fixed [] unknown-set end [] tail fixed-answer fixed-records the-end refl refl refl (omega arith) (computed .1)
 
 -- ---- what is supported
 
@@ -189,17 +223,17 @@ lists-other : lists ≡ lists′ → ⊥
 lists-other e = let z : _≡_ {A = ℕ} 0 128 = cc in omega arith
 
 lists-is : Parts Record End (message lists end []) 100
-lists-is = accepted-is (message lists end []) 100 0 lists-answer (computed .2)
+lists-is = request-ordered .accepted-is (message lists end []) (asked 0) lists-answer (computed .2)
 
-lists-reordered : Shows (message lists′ end tail) 100 0 (support (107 ∷ []) true false true)
-unfolding numberAt kindOf kind
-lists-reordered = reordered 100 0 lists lists′ end [] tail lists-answer lists-records the-end lists-order refl refl (computed .2)
+lists-reordered : Showing reading shows (message lists′ end tail) (asked 0) (support (107 ∷ []) true false true)
+unfolding numberAt kindOf kind size there
+lists-reordered = request-ordered .reordered (asked 0) lists lists′ end [] tail lists-answer lists-records the-end lists-order refl refl (computed .2)
 
 -- as the first record
-lists-inserted : Shows (message (unknown ∷ authentication ∷ wanted-protocols ∷ keep-alive ∷ []) end tail) 100 0 (support (107 ∷ []) true false true)
-unfolding numberAt kindOf criticalOf kind critical size known
-lists-inserted = inserted 100 0 [] lists unknown end [] tail lists-answer lists-records the-end refl refl refl (omega arith) (computed .2)
+lists-inserted : Showing reading shows (message (unknown ∷ authentication ∷ wanted-protocols ∷ keep-alive ∷ []) end tail) (asked 0) (support (107 ∷ []) true false true)
+unfolding numberAt kindOf criticalOf kind critical size known isUnknown shapeOf rowOf
+lists-inserted = request-ordered .inserted (asked 0) [] lists unknown end [] tail lists-answer lists-records the-end refl refl refl (omega arith) (computed .2)
 
 lists-refused : request (message (unknown-set ∷ authentication ∷ wanted-protocols ∷ keep-alive ∷ []) end tail) 100 0 ≡ refused (record { number = 3; beside = nothing; place = 0 })
-unfolding numberAt kindOf criticalOf kind critical size known
-lists-refused = inserted-critical 100 0 [] lists unknown-set end [] tail lists-answer lists-records the-end refl refl refl (omega arith) (computed .2)
+unfolding numberAt kindOf criticalOf kind critical size known isUnknown shapeOf rowOf
+lists-refused = request-ordered .inserted-critical (asked 0) [] lists unknown-set end [] tail lists-answer lists-records the-end refl refl refl (omega arith) (computed .2)

@@ -1,12 +1,13 @@
 -- Demand 1, "A refusal bears its number from document 01": where the word of a call is not 0, it is that of the refusal which its definition tells (`gives-refused`,
--- cells/proofs/Lent.antt, for every contract of `Gives`). Here the other way round: a call returns 0 only where its definition refuses nothing, since no refusal's number
--- is 0, and then what was lent holds what the definition gives. One theorem for each call that can refuse, over its own contract; for the readers of whole messages
--- `request-word` and `reply-word` (FaceKept.antt). The calls ntske_part, ntske_entry, ntske_number, ntske_pair and ntske_plan_new refuse nothing, by their contracts.
+-- cells/proofs/Lent.antt, for every contract of `Gives`). Here the other way round: a call returns 0 only where its definition refuses nothing, since no number of a
+-- set is 0 (`sure-of`, Refusing.antt), and then what was lent holds what the definition gives. One theorem for each call that can refuse, over its own contract; for the
+-- readers of whole messages `request-word` and `reply-word` (FaceKept.antt).
 -- Assumes nothing.
 use mathlib.Core.Path.{_≡_}
 use mathlib.Core.List.{List, [], _∷_}
 use mathlib.Core.Bool.{true, false}
 use Prim.Native.Nat.{ℕ}
+use native.Mathlib.Omega.{arith}
 use lib.ListN.{length}
 use denote.Ref.{now}
 use Rattle.wire.specs.Over.{over}
@@ -21,7 +22,7 @@ use Rattle.plan.specs.declared.NameLength.the-variants as names
 use Rattle.messages.specs.Messages.{messageOf, bodiesOf, noProtocolRecords, noAlgorithmRecords, errorRecords, supportRecords, requestRecords, requestChecked}
 use Rattle.listing.specs.Listing.{listing}
 use Rattle.cells.specs.Cells.{Given, cells, cell}
-use Rattle.cells.proofs.Lent.{gives-granted, counted-granted, writes-granted, count-fitted}
+use Rattle.cells.proofs.Lent.{gives-granted, counted-granted, writes-granted}
 use Rattle.reading.specs.Read.{recordGiven}
 use Rattle.handing.specs.Handed.{choiceGiven, protocolGiven, keyGiven}
 use Rattle.planning.specs.Planned.{planIn, changed, grownGiven, appended, plannedLength, plannedReply, plannedBytes}
@@ -50,7 +51,8 @@ use Rattle.writing.proofs.ntske_append_denied.Reads as append-denied
 use Rattle.writing.proofs.ntske_write_record.Reads as write-record
 use Rattle.writing.proofs.ntske_record_length.Reads as record-length
 use Rattle.showing.proofs.ntske_list.Reads as list
-use Rattle.promises.proofs.Granting.{record-sure, held-sure, choice-sure, protocol-sure, key-sure, changed-sure, appended-sure, planned-sure, reply-sure, support-sure, request-sure, deny-sure}
+use Rattle.promises.proofs.Refusing.{sure-of}
+use Rattle.promises.proofs.Telling.{record-tells, choice-tells, protocol-tells, key-tells, change-tells, append-tells, plan-length-tells, write-reply-tells, fixed-tells, support-length-tells, write-support-tells, request-length-tells, write-request-tells, deny-tells, record-length-tells, write-record-tells, list-tells}
 
 -- ---- what 0 says
 
@@ -70,110 +72,107 @@ Written a b o o′ after = (n : ℕ) × (a ≡ bytes n) × (o′ ≡ over b o) �
 
 pub read-record-granted : (κs : _) (a : _) (r : _) (e : _) → read-record.Learnt κs a r e → r ≡ 0
     → Gave (recordGiven (readAt (now (a .0)) (a .1 .0))) (now (e .1 .1 .0))
-read-record-granted κs a r e p z = gives-granted p (record-sure (now (a .0)) (a .1 .0)) z
+read-record-granted κs a r e p z = gives-granted p (sure-of (record-tells (now (a .0)) (a .1 .0))) z
 
 pub choose-granted : (κs : _) (a : _) (r : _) (e : _) → choose.Learnt κs a r e → r ≡ 0
     → Gave (choiceGiven (choices.choose (now (a .0)) (now (a .1 .0)) (now (a .1 .1 .0)) (now (a .1 .1 .1 .0)))) (now (e .1 .1 .1 .1 .0))
-choose-granted κs a r e p z = gives-granted p (choice-sure (now (a .0)) (now (a .1 .0)) (now (a .1 .1 .0)) (now (a .1 .1 .1 .0))) z
+choose-granted κs a r e p z = gives-granted p (sure-of (choice-tells (now (a .0)) (now (a .1 .0)) (now (a .1 .1 .0)) (now (a .1 .1 .1 .0)))) z
 
 pub choose-protocol-granted : (κs : _) (a : _) (r : _) (e : _) → choose-protocol.Learnt κs a r e → r ≡ 0
     → Gave (protocolGiven (choices.chooseProtocol (now (a .0)) (now (a .1 .0)))) (now (e .1 .1 .0))
-choose-protocol-granted κs a r e p z = gives-granted p (protocol-sure (now (a .0)) (now (a .1 .0))) z
+choose-protocol-granted κs a r e p z = gives-granted p (sure-of (protocol-tells (now (a .0)) (now (a .1 .0)))) z
 
 pub key-length-granted : (κs : _) (a : _) (r : _) (e : _) → key-length.Learnt κs a r e → r ≡ 0
     → Gave (keyGiven (a .0) (describe (a .0))) (now (e .1 .0))
-key-length-granted κs a r e p z = gives-granted p (key-sure (a .0) (describe (a .0))) z
+key-length-granted κs a r e p z = gives-granted p (sure-of (key-tells (a .0))) z
 
 -- ---- a plan, its length and its reply
 
 pub plan-set-port-granted : (κs : _) (a : _) (r : _) (e : _) → plan-set-port.Learnt κs a r e → r ≡ 0
     → Gave (changed (λ x. plans.withPort x (ports.Number (a .1 .0))) (planIn (now (a .0)))) (now (e .0))
-plan-set-port-granted κs a r e p z = gives-granted p (changed-sure _ (planIn (now (a .0)))) z
+plan-set-port-granted κs a r e p z = gives-granted p (sure-of (change-tells (λ x. plans.withPort x (ports.Number (a .1 .0))) (now (a .0)))) z
 
 pub plan-clear-port-granted : (κs : _) (a : _) (r : _) (e : _) → plan-clear-port.Learnt κs a r e → r ≡ 0
     → Gave (changed (λ x. plans.withPort x ports.None) (planIn (now (a .0)))) (now (e .0))
-plan-clear-port-granted κs a r e p z = gives-granted p (changed-sure _ (planIn (now (a .0)))) z
+plan-clear-port-granted κs a r e p z = gives-granted p (sure-of (change-tells (λ x. plans.withPort x ports.None) (now (a .0)))) z
 
 pub plan-set-name-length-granted : (κs : _) (a : _) (r : _) (e : _) → plan-set-name-length.Learnt κs a r e → r ≡ 0
     → Gave (changed (λ x. plans.withName x (names.Bytes (a .1 .0))) (planIn (now (a .0)))) (now (e .0))
-plan-set-name-length-granted κs a r e p z = gives-granted p (changed-sure _ (planIn (now (a .0)))) z
+plan-set-name-length-granted κs a r e p z = gives-granted p (sure-of (change-tells (λ x. plans.withName x (names.Bytes (a .1 .0))) (now (a .0)))) z
 
 pub plan-clear-name-length-granted : (κs : _) (a : _) (r : _) (e : _) → plan-clear-name-length.Learnt κs a r e → r ≡ 0
     → Gave (changed (λ x. plans.withName x names.None) (planIn (now (a .0)))) (now (e .0))
-plan-clear-name-length-granted κs a r e p z = gives-granted p (changed-sure _ (planIn (now (a .0)))) z
+plan-clear-name-length-granted κs a r e p z = gives-granted p (sure-of (change-tells (λ x. plans.withName x names.None) (now (a .0)))) z
 
 pub plan-set-keep-alive-granted : (κs : _) (a : _) (r : _) (e : _) → plan-set-keep-alive.Learnt κs a r e → r ≡ 0
     → Gave (changed (λ x. plans.withKeepAlive x true) (planIn (now (a .0)))) (now (e .0))
-plan-set-keep-alive-granted κs a r e p z = gives-granted p (changed-sure _ (planIn (now (a .0)))) z
+plan-set-keep-alive-granted κs a r e p z = gives-granted p (sure-of (change-tells (λ x. plans.withKeepAlive x true) (now (a .0)))) z
 
 pub plan-clear-keep-alive-granted : (κs : _) (a : _) (r : _) (e : _) → plan-clear-keep-alive.Learnt κs a r e → r ≡ 0
     → Gave (changed (λ x. plans.withKeepAlive x false) (planIn (now (a .0)))) (now (e .0))
-plan-clear-keep-alive-granted κs a r e p z = gives-granted p (changed-sure _ (planIn (now (a .0)))) z
+plan-clear-keep-alive-granted κs a r e p z = gives-granted p (sure-of (change-tells (λ x. plans.withKeepAlive x false) (now (a .0)))) z
 
 pub plan-append-granted : (κs : _) (a : _) (r : _) (e : _) → plan-append.Learnt κs a r e → r ≡ 0
     → Gave (grownGiven (appended (planIn (now (a .0))) (now (a .1 .0)) (now (a .1 .1 .0)))) (now (e .0))
-plan-append-granted κs a r e p z = gives-granted (p .gives) (appended-sure (planIn (now (a .0))) (now (a .1 .0)) (now (a .1 .1 .0))) z
+plan-append-granted κs a r e p z = gives-granted (p .gives) (sure-of (append-tells (now (a .0)) (now (a .1 .0)) (now (a .1 .1 .0)))) z
 
 pub plan-length-granted : (κs : _) (a : _) (r : _) (e : _) → plan-length.Learnt κs a r e → r ≡ 0
     → Counted (plannedLength (planIn (now (a .0))) (now (a .1 .0))) (now (e .1 .1 .0))
-plan-length-granted κs a r e p z = counted-granted p (planned-sure (planIn (now (a .0))) (now (a .1 .0))) z
+plan-length-granted κs a r e p z = counted-granted p (sure-of (plan-length-tells (now (a .0)) (now (a .1 .0)))) z
 
 pub write-reply-granted : (κs : _) (a : _) (r : _) (e : _) → write-reply.Learnt κs a r e → r ≡ 0
     → Written (plannedReply (planIn (now (a .0))) (now (a .1 .0)) (now (a .1 .1 .0)) (length (now (a .1 .1 .1 .0))))
     (plannedBytes (planIn (now (a .0))) (now (a .1 .0)) (now (a .1 .1 .0))) (now (a .1 .1 .1 .0)) (now (e .1 .1 .1 .0)) (now (e .1 .1 .1 .1 .0))
-write-reply-granted κs a r e p z = writes-granted p (reply-sure (planIn (now (a .0))) (now (a .1 .0)) (now (a .1 .1 .0)) (length (now (a .1 .1 .1 .0)))) z
+write-reply-granted κs a r e p z = writes-granted p (sure-of (write-reply-tells (now (a .0)) (now (a .1 .0)) (now (a .1 .1 .0)) (length (now (a .1 .1 .1 .0))))) z
 
 -- ---- the other writers and lengths, and a denied name appended
 
 pub write-no-protocol-granted : (κs : _) (a : _) (r : _) (e : _) → write-no-protocol.Learnt κs a r e → r ≡ 0
     → Written (fitted (length (now (a .0))) (bytes 8)) (messageOf noProtocolRecords) (now (a .0)) (now (e .0)) (now (e .1 .0))
-write-no-protocol-granted κs a r e p z = writes-granted p (count-fitted (length (now (a .0))) (bytes 8) tt) z
+write-no-protocol-granted κs a r e p z = writes-granted p (sure-of (fixed-tells 8 (omega arith) (length (now (a .0))))) z
 
 pub write-no-algorithm-granted : (κs : _) (a : _) (r : _) (e : _) → write-no-algorithm.Learnt κs a r e → r ≡ 0
     → Written (fitted (length (now (a .1 .0))) (bytes 14)) (messageOf (noAlgorithmRecords (a .0))) (now (a .1 .0)) (now (e .1 .0)) (now (e .1 .1 .0))
-write-no-algorithm-granted κs a r e p z = writes-granted p (count-fitted (length (now (a .1 .0))) (bytes 14) tt) z
+write-no-algorithm-granted κs a r e p z = writes-granted p (sure-of (fixed-tells 14 (omega arith) (length (now (a .1 .0))))) z
 
 pub write-error-granted : (κs : _) (a : _) (r : _) (e : _) → write-error.Learnt κs a r e → r ≡ 0
     → Written (fitted (length (now (a .1 .0))) (bytes 10)) (messageOf (errorRecords (a .0))) (now (a .1 .0)) (now (e .1 .0)) (now (e .1 .1 .0))
-write-error-granted κs a r e p z = writes-granted p (count-fitted (length (now (a .1 .0))) (bytes 10) tt) z
+write-error-granted κs a r e p z = writes-granted p (sure-of (fixed-tells 10 (omega arith) (length (now (a .1 .0))))) z
 
 pub write-support-reply-granted : (κs : _) (a : _) (r : _) (e : _) → write-support-reply.Learnt κs a r e → r ≡ 0
     → Written (fitted (length (now (a .1 .1 .1 .0))) (supportCount (a .0) (now (a .1 .0)) (now (a .1 .1 .0))))
     (messageOf (supportRecords (askedOf (a .0)) (now (a .1 .0)) (now (a .1 .1 .0)))) (now (a .1 .1 .1 .0)) (now (e .1 .1 .1 .0)) (now (e .1 .1 .1 .1 .0))
-write-support-reply-granted κs a r e p z =
-    writes-granted p (count-fitted (length (now (a .1 .1 .1 .0))) (supportCount (a .0) (now (a .1 .0)) (now (a .1 .1 .0))) (support-sure (a .0) (now (a .1 .0)) (now (a .1 .1 .0)))) z
+write-support-reply-granted κs a r e p z = writes-granted p (sure-of (write-support-tells (a .0) (now (a .1 .0)) (now (a .1 .1 .0)) (length (now (a .1 .1 .1 .0))))) z
 
 pub support-reply-length-granted : (κs : _) (a : _) (r : _) (e : _) → support-reply-length.Learnt κs a r e → r ≡ 0
     → Counted (supportCount (a .0) (now (a .1 .0)) (now (a .1 .1 .0))) (now (e .1 .1 .1 .0))
-support-reply-length-granted κs a r e p z = counted-granted p (support-sure (a .0) (now (a .1 .0)) (now (a .1 .1 .0))) z
+support-reply-length-granted κs a r e p z = counted-granted p (sure-of (support-length-tells (a .0) (now (a .1 .0)) (now (a .1 .1 .0)))) z
 
 pub write-request-granted : (κs : _) (a : _) (r : _) (e : _) → write-request.Learnt κs a r e → r ≡ 0
     → Written (fitted (length (now (a .1 .1 .1 .1 .0))) (requestChecked (now (a .0)) (now (a .1 .0)) (namesIn (a .1 .1 .1 .0) (now (a .1 .1 .0)))))
     (messageOf (requestRecords (now (a .0)) (now (a .1 .0)) (bodiesOf (namesIn (a .1 .1 .1 .0) (now (a .1 .1 .0)))))) (now (a .1 .1 .1 .1 .0)) (now (e .1 .1 .1 .1 .0)) (now (e .1 .1 .1 .1 .1 .0))
-write-request-granted κs a r e p z =
-    writes-granted p (count-fitted (length (now (a .1 .1 .1 .1 .0))) (requestChecked (now (a .0)) (now (a .1 .0)) (namesIn (a .1 .1 .1 .0) (now (a .1 .1 .0)))) (request-sure (now (a .0)) (now (a .1 .0)) (namesIn (a .1 .1 .1 .0) (now (a .1 .1 .0))))) z
+write-request-granted κs a r e p z = writes-granted p (sure-of (write-request-tells (now (a .0)) (now (a .1 .0)) (now (a .1 .1 .0)) (a .1 .1 .1 .0) (length (now (a .1 .1 .1 .1 .0))))) z
 
 pub request-length-granted : (κs : _) (a : _) (r : _) (e : _) → request-length.Learnt κs a r e → r ≡ 0
     → Counted (requestChecked (now (a .0)) (now (a .1 .0)) (namesIn (a .1 .1 .1 .0) (now (a .1 .1 .0)))) (now (e .1 .1 .1 .1 .0))
-request-length-granted κs a r e p z = counted-granted p (request-sure (now (a .0)) (now (a .1 .0)) (namesIn (a .1 .1 .1 .0) (now (a .1 .1 .0)))) z
+request-length-granted κs a r e p z = counted-granted p (sure-of (request-length-tells (now (a .0)) (now (a .1 .0)) (now (a .1 .1 .0)) (a .1 .1 .1 .0))) z
 
 pub append-denied-granted : (κs : _) (a : _) (r : _) (e : _) → append-denied.Learnt κs a r e → r ≡ 0
     → Counted (deny (cell (now (a .1 .1 .0)) 0) (now (a .0)) (now (a .1 .0))) (now (e .1 .1 .0))
-append-denied-granted κs a r e p z = counted-granted (p .gives) (deny-sure (cell (now (a .1 .1 .0)) 0) (now (a .0)) (now (a .1 .0))) z
+append-denied-granted κs a r e p z = counted-granted (p .gives) (sure-of (deny-tells (cell (now (a .1 .1 .0)) 0) (now (a .0)) (now (a .1 .0)))) z
 
 pub write-record-granted : (κs : _) (a : _) (r : _) (e : _) → write-record.Learnt κs a r e → r ≡ 0
     → Written (fitted (length (now (a .1 .1 .0))) (heldLength (recordIn (now (a .0))) (now (a .1 .0))))
     (heldBytes (recordIn (now (a .0))) (now (a .1 .0))) (now (a .1 .1 .0)) (now (e .1 .1 .0)) (now (e .1 .1 .1 .0))
-write-record-granted κs a r e p z =
-    writes-granted p (count-fitted (length (now (a .1 .1 .0))) (heldLength (recordIn (now (a .0))) (now (a .1 .0))) (held-sure (recordIn (now (a .0))) (now (a .1 .0)))) z
+write-record-granted κs a r e p z = writes-granted p (sure-of (write-record-tells (now (a .0)) (now (a .1 .0)) (length (now (a .1 .1 .0))))) z
 
 pub record-length-granted : (κs : _) (a : _) (r : _) (e : _) → record-length.Learnt κs a r e → r ≡ 0
     → Counted (heldLength (recordIn (now (a .0))) (now (a .1 .0))) (now (e .1 .1 .0))
-record-length-granted κs a r e p z = counted-granted p (held-sure (recordIn (now (a .0))) (now (a .1 .0))) z
+record-length-granted κs a r e p z = counted-granted p (sure-of (record-length-tells (now (a .0)) (now (a .1 .0)))) z
 
 -- ---- a listing
 
 pub list-granted : (κs : _) (a : _) (r : _) (e : _) → list.Learnt κs a r e → r ≡ 0
     → Written (fitted (length (now (a .1 .1 .1 .0))) (bytes (length (listing (now (a .0)) (a .1 .0) (a .1 .1 .0)))))
     (listing (now (a .0)) (a .1 .0) (a .1 .1 .0)) (now (a .1 .1 .1 .0)) (now (e .1 .1 .1 .0)) (now (e .1 .1 .1 .1 .0))
-list-granted κs a r e p z = writes-granted p (count-fitted (length (now (a .1 .1 .1 .0))) (bytes (length (listing (now (a .0)) (a .1 .0) (a .1 .1 .0)))) tt) z
+list-granted κs a r e p z = writes-granted p (sure-of (list-tells (now (a .0)) (a .1 .0) (a .1 .1 .0) (length (now (a .1 .1 .1 .0))))) z

@@ -1,13 +1,17 @@
 -- Demand 1 for every call that a host links and that has memory lent to it for writing: "A refusal bears its number from document 01 and changes no lent table or
 -- buffer." Each call returns one word. The first theorems say what that word is of the readers of whole messages; those that follow say of each call, over its own
--- contract, that a word which is not 0 leaves all that was lent as it was. What the word of any other call bears: FaceGranted.antt.
+-- contract, that a word which is not 0 leaves all that was lent as it was, and that its number, the word's remainder by 65,536, is one of the call's set
+-- (specs/Numbers.antt). Five calls refuse nothing. That each number of a set is told: Exact.antt, ExactFace.antt. What a word that is 0 says: FaceGranted.antt.
 -- Assumes nothing.
-use mathlib.Core.Path.{_≡_}
+use mathlib.Core.Path.{_≡_, ap}
 use mathlib.Core.List.{List}
-use Prim.Native.Nat.{ℕ, _/_, _%_, _<_, _≤_}
-use lib.ListN.{getD}
+use mathlib.Core.Bool.{true, false}
+use Prim.Native.Nat.{ℕ, _/_, _%_, _<_}
+use native.Mathlib.Omega.{arith}
+use lib.ListN.{length, getD}
 use denote.Ref.{now}
-use Rattle.nts.specs.Refusal.{Refused}
+use Rattle.nts.specs.Refusal.{code, Refused}
+use Rattle.nts.specs.Algorithm.{Described, known, unknown, describe}
 use Rattle.walk.specs.Walk.{Sighting}
 use Rattle.walk.specs.Judge.{refused, accepted}
 use Rattle.places.specs.Places.{roomOf}
@@ -15,8 +19,12 @@ use Rattle.request.specs.Request as requests
 use Rattle.request.specs.Request.{request}
 use Rattle.reply.specs.Reply as replies
 use Rattle.reply.specs.Reply.{replyOf}
-use Rattle.cells.specs.Cells.{besideNumber, word}
-use Rattle.cells.proofs.Lent.{gives-kept, writes-kept}
+use Rattle.plan.specs.Plan as plans
+use Rattle.plan.specs.declared.Port.the-variants as ports
+use Rattle.plan.specs.declared.NameLength.the-variants as names
+use Rattle.cells.specs.Cells.{besideNumber, word, unplaced, refuses, cell}
+use Rattle.cells.proofs.Lent.{gives-refused, apart}
+use Rattle.handing.specs.Handed.{keyGiven}
 use Rattle.reading.specs.Read.{ReadsRequest, ReadsReply}
 use Rattle.reading.proofs.ntske_read_request.Reads as read-request
 use Rattle.reading.proofs.ntske_read_reply.Reads as read-reply
@@ -51,6 +59,10 @@ use Rattle.writing.proofs.ntske_append_denied.Reads as append-denied
 use Rattle.writing.proofs.ntske_write_record.Reads as write-record
 use Rattle.writing.proofs.ntske_record_length.Reads as record-length
 use Rattle.showing.proofs.ntske_list.Reads as list
+use Rattle.promises.specs.Numbers.{In, ofAnswer, recordNumbers, requestNumbers, replyNumbers, choiceNumbers, protocolNumbers, keyNumbers, planNumbers, appendNumbers, lengthNumbers, writerNumbers, replyWriterNumbers, roomNumbers}
+use Rattle.promises.proofs.Exact.{request-exactly, reply-exactly}
+use Rattle.promises.proofs.Refusing.{number-of, given-refuses, writes-refuses}
+use Rattle.promises.proofs.Telling.{request-tells, reply-tells, record-tells, choice-tells, protocol-tells, key-tells, change-tells, append-tells, plan-length-tells, write-reply-tells, fixed-tells, support-length-tells, write-support-tells, request-length-tells, write-request-tells, deny-tells, record-length-tells, write-record-tells, list-tells}
 use Rattle.promises.proofs.Hosted.{granted, bears, told-apart, kept}
 use Rattle.promises.proofs.HostedRequest.{hosted-request}
 use Rattle.promises.proofs.HostedReply.{hosted-reply}
@@ -63,9 +75,11 @@ module _ (m : List ℕ) (n : ℕ) (table lent : List ℕ) (r : ℕ) (table′ af
   pub request-word : r ≡ 0 → (q : requests.Form Sighting) × (request m n (roomOf table) ≡ accepted q)
   request-word = granted hosted-request c
 
-  -- .. and otherwise that of the refusal, whose number is one of 01's table ..
-  pub request-bears : (r ≡ 0 → ⊥) → (y : Refused) × (request m n (roomOf table) ≡ refused y) × (r ≡ word y) × (1 ≤ y .number) × (y .number ≤ 15)
-  request-bears = bears hosted-request c
+  -- .. and otherwise that of the refusal, whose number is one of these ..
+  pub request-bears : (r ≡ 0 → ⊥) → (y : Refused) × (request m n (roomOf table) ≡ refused y) × (r ≡ word y) × In (y .number) requestNumbers
+  request-bears h =
+      let y = bears hosted-request c h in
+      (y .0, y .1, y .2, request-exactly .only (record { message = m; limit = n; room = roomOf table }) (y .0 .number) (ap ofAnswer (y .1)))
 
   -- .. and which it tells whole: the number, the number beside it, and the place. A message is bytes
   pub request-told : (y : Refused) → request m n (roomOf table) ≡ refused y → ((i : ℕ) → getD m i 0 < 256)
@@ -77,112 +91,125 @@ module _ (m : List ℕ) (n : ℕ) (table lent : List ℕ) (r : ℕ) (table′ af
   pub reply-word : r ≡ 0 → (q : replies.Form Sighting) × (replyOf m n (roomOf table) ≡ accepted q)
   reply-word = granted hosted-reply c
 
-  pub reply-bears : (r ≡ 0 → ⊥) → (y : Refused) × (replyOf m n (roomOf table) ≡ refused y) × (r ≡ word y) × (1 ≤ y .number) × (y .number ≤ 15)
-  reply-bears = bears hosted-reply c
+  pub reply-bears : (r ≡ 0 → ⊥) → (y : Refused) × (replyOf m n (roomOf table) ≡ refused y) × (r ≡ word y) × In (y .number) replyNumbers
+  reply-bears h =
+      let y = bears hosted-reply c h in
+      (y .0, y .1, y .2, reply-exactly .only (record { message = m; limit = n; room = roomOf table }) (y .0 .number) (ap ofAnswer (y .1)))
 
   pub reply-told : (y : Refused) → replyOf m n (roomOf table) ≡ refused y → ((i : ℕ) → getD m i 0 < 256)
       → (r % 65536 ≡ y .number) × (r / 65536 % 65536 ≡ besideNumber (y .beside)) × (r / 4294967296 ≡ y .place)
   reply-told = told-apart hosted-reply c
 
+-- ntske_key_length, where it refuses: 5, the algorithm's number beside it, which has sixteen bits, and no place
+pub key-length-told : (κs : _) (a : _) (r : _) (e : _) → key-length.Learnt κs a r e → a .0 < 65536 → (r ≡ 0 → ⊥)
+    → (r % 65536 ≡ 5) × (r / 65536 % 65536 ≡ a .0) × (r / 4294967296 ≡ 0)
+key-length-told κs a r e p small h =
+    let y = gives-refused p h in
+    rw (y .2, go (a .0) (y .0) (describe (a .0)) (y .1)) (apart (unplaced 5 (code (a .0))) (omega arith) small)
+  where
+    go : (n : ℕ) (y : Refused) (d : Described) → keyGiven n d ≡ refuses y → y ≡ unplaced 5 (code n)
+    go n y unknown w = cc
+    go n y (known m size) w = let z : _≡_ {A = ℕ} 0 1 = cc in absurd (omega arith)
+
 -- ---- the calls of `reading`: the table of names or cookies, and the cells
 
-pub read-request-kept : (κs : _) (a : _) (r : _) (e : _) → read-request.Learnt κs a r e → (r ≡ 0 → ⊥) → (now (e .1 .1 .0) ≡ now (a .1 .1 .0)) × (now (e .1 .1 .1 .0) ≡ now (a .1 .1 .1 .0))
-read-request-kept κs a r e p h = kept hosted-request p h
+pub ntske-read-request-refuses : (κs : _) (a : _) (r : _) (e : _) → read-request.Learnt κs a r e → (r ≡ 0 → ⊥) → (now (e .1 .1 .0) ≡ now (a .1 .1 .0)) × (now (e .1 .1 .1 .0) ≡ now (a .1 .1 .1 .0)) × In (r % 65536) requestNumbers
+ntske-read-request-refuses κs a r e p h = let k = kept hosted-request p h in (k .0, k .1, number-of (request-tells (now (a .0)) (a .1 .0) (roomOf (now (a .1 .1 .0)))) (p .gives) h)
 
-pub read-reply-kept : (κs : _) (a : _) (r : _) (e : _) → read-reply.Learnt κs a r e → (r ≡ 0 → ⊥) → (now (e .1 .1 .0) ≡ now (a .1 .1 .0)) × (now (e .1 .1 .1 .0) ≡ now (a .1 .1 .1 .0))
-read-reply-kept κs a r e p h = kept hosted-reply p h
+pub ntske-read-reply-refuses : (κs : _) (a : _) (r : _) (e : _) → read-reply.Learnt κs a r e → (r ≡ 0 → ⊥) → (now (e .1 .1 .0) ≡ now (a .1 .1 .0)) × (now (e .1 .1 .1 .0) ≡ now (a .1 .1 .1 .0)) × In (r % 65536) replyNumbers
+ntske-read-reply-refuses κs a r e p h = let k = kept hosted-reply p h in (k .0, k .1, number-of (reply-tells (now (a .0)) (a .1 .0) (roomOf (now (a .1 .1 .0)))) (p .gives) h)
 
-pub read-record-kept : (κs : _) (a : _) (r : _) (e : _) → read-record.Learnt κs a r e → (r ≡ 0 → ⊥) → now (e .1 .1 .0) ≡ now (a .1 .1 .0)
-read-record-kept κs a r e p h = gives-kept p h
+pub ntske-read-record-refuses : (κs : _) (a : _) (r : _) (e : _) → read-record.Learnt κs a r e → (r ≡ 0 → ⊥) → (now (e .1 .1 .0) ≡ now (a .1 .1 .0)) × In (r % 65536) recordNumbers
+ntske-read-record-refuses κs a r e p h = given-refuses (record-tells (now (a .0)) (a .1 .0)) p h
 
 -- ---- of `handing`: the cells
 
-pub part-kept : (κs : _) (a : _) (r : _) (e : _) → part.Learnt κs a r e → (r ≡ 0 → ⊥) → now (e .1 .1 .1 .0) ≡ now (a .1 .1 .1 .0)
-part-kept κs a r e p h = gives-kept p h
+pub ntske-part-refuses-nothing : (κs : _) (a : _) (r : _) (e : _) → part.Learnt κs a r e → r ≡ 0
+ntske-part-refuses-nothing κs a r e p = p .says
 
-pub entry-kept : (κs : _) (a : _) (r : _) (e : _) → entry.Learnt κs a r e → (r ≡ 0 → ⊥) → now (e .1 .1 .1 .0) ≡ now (a .1 .1 .1 .0)
-entry-kept κs a r e p h = gives-kept p h
+pub ntske-entry-refuses-nothing : (κs : _) (a : _) (r : _) (e : _) → entry.Learnt κs a r e → r ≡ 0
+ntske-entry-refuses-nothing κs a r e p = p .says
 
-pub number-kept : (κs : _) (a : _) (r : _) (e : _) → number.Learnt κs a r e → (r ≡ 0 → ⊥) → now (e .1 .1 .1 .1 .0) ≡ now (a .1 .1 .1 .1 .0)
-number-kept κs a r e p h = gives-kept p h
+pub ntske-number-refuses-nothing : (κs : _) (a : _) (r : _) (e : _) → number.Learnt κs a r e → r ≡ 0
+ntske-number-refuses-nothing κs a r e p = p .says
 
-pub pair-kept : (κs : _) (a : _) (r : _) (e : _) → pair.Learnt κs a r e → (r ≡ 0 → ⊥) → now (e .1 .1 .1 .1 .0) ≡ now (a .1 .1 .1 .1 .0)
-pair-kept κs a r e p h = gives-kept p h
+pub ntske-pair-refuses-nothing : (κs : _) (a : _) (r : _) (e : _) → pair.Learnt κs a r e → r ≡ 0
+ntske-pair-refuses-nothing κs a r e p = p .says
 
-pub choose-kept : (κs : _) (a : _) (r : _) (e : _) → choose.Learnt κs a r e → (r ≡ 0 → ⊥) → now (e .1 .1 .1 .1 .0) ≡ now (a .1 .1 .1 .1 .0)
-choose-kept κs a r e p h = gives-kept p h
+pub ntske-choose-refuses : (κs : _) (a : _) (r : _) (e : _) → choose.Learnt κs a r e → (r ≡ 0 → ⊥) → (now (e .1 .1 .1 .1 .0) ≡ now (a .1 .1 .1 .1 .0)) × In (r % 65536) choiceNumbers
+ntske-choose-refuses κs a r e p h = given-refuses (choice-tells (now (a .0)) (now (a .1 .0)) (now (a .1 .1 .0)) (now (a .1 .1 .1 .0))) p h
 
-pub choose-protocol-kept : (κs : _) (a : _) (r : _) (e : _) → choose-protocol.Learnt κs a r e → (r ≡ 0 → ⊥) → now (e .1 .1 .0) ≡ now (a .1 .1 .0)
-choose-protocol-kept κs a r e p h = gives-kept p h
+pub ntske-choose-protocol-refuses : (κs : _) (a : _) (r : _) (e : _) → choose-protocol.Learnt κs a r e → (r ≡ 0 → ⊥) → (now (e .1 .1 .0) ≡ now (a .1 .1 .0)) × In (r % 65536) protocolNumbers
+ntske-choose-protocol-refuses κs a r e p h = given-refuses (protocol-tells (now (a .0)) (now (a .1 .0))) p h
 
-pub key-length-kept : (κs : _) (a : _) (r : _) (e : _) → key-length.Learnt κs a r e → (r ≡ 0 → ⊥) → now (e .1 .0) ≡ now (a .1 .0)
-key-length-kept κs a r e p h = gives-kept p h
+pub ntske-key-length-refuses : (κs : _) (a : _) (r : _) (e : _) → key-length.Learnt κs a r e → (r ≡ 0 → ⊥) → (now (e .1 .0) ≡ now (a .1 .0)) × In (r % 65536) keyNumbers
+ntske-key-length-refuses κs a r e p h = given-refuses (key-tells (a .0)) p h
 
 -- ---- of `planning`: the plan's cells; of an append, these and the tray; of a length, its cell; of a writer, the output and the cell of its count
 
-pub plan-new-kept : (κs : _) (a : _) (r : _) (e : _) → plan-new.Learnt κs a r e → (r ≡ 0 → ⊥) → now (e .1 .1 .0) ≡ now (a .1 .1 .0)
-plan-new-kept κs a r e p h = gives-kept p h
+pub ntske-plan-new-refuses-nothing : (κs : _) (a : _) (r : _) (e : _) → plan-new.Learnt κs a r e → r ≡ 0
+ntske-plan-new-refuses-nothing κs a r e p = p .says
 
-pub plan-set-port-kept : (κs : _) (a : _) (r : _) (e : _) → plan-set-port.Learnt κs a r e → (r ≡ 0 → ⊥) → now (e .0) ≡ now (a .0)
-plan-set-port-kept κs a r e p h = gives-kept p h
+pub ntske-plan-set-port-refuses : (κs : _) (a : _) (r : _) (e : _) → plan-set-port.Learnt κs a r e → (r ≡ 0 → ⊥) → (now (e .0) ≡ now (a .0)) × In (r % 65536) planNumbers
+ntske-plan-set-port-refuses κs a r e p h = given-refuses (change-tells (λ x. plans.withPort x (ports.Number (a .1 .0))) (now (a .0))) p h
 
-pub plan-clear-port-kept : (κs : _) (a : _) (r : _) (e : _) → plan-clear-port.Learnt κs a r e → (r ≡ 0 → ⊥) → now (e .0) ≡ now (a .0)
-plan-clear-port-kept κs a r e p h = gives-kept p h
+pub ntske-plan-clear-port-refuses : (κs : _) (a : _) (r : _) (e : _) → plan-clear-port.Learnt κs a r e → (r ≡ 0 → ⊥) → (now (e .0) ≡ now (a .0)) × In (r % 65536) planNumbers
+ntske-plan-clear-port-refuses κs a r e p h = given-refuses (change-tells (λ x. plans.withPort x ports.None) (now (a .0))) p h
 
-pub plan-set-name-length-kept : (κs : _) (a : _) (r : _) (e : _) → plan-set-name-length.Learnt κs a r e → (r ≡ 0 → ⊥) → now (e .0) ≡ now (a .0)
-plan-set-name-length-kept κs a r e p h = gives-kept p h
+pub ntske-plan-set-name-length-refuses : (κs : _) (a : _) (r : _) (e : _) → plan-set-name-length.Learnt κs a r e → (r ≡ 0 → ⊥) → (now (e .0) ≡ now (a .0)) × In (r % 65536) planNumbers
+ntske-plan-set-name-length-refuses κs a r e p h = given-refuses (change-tells (λ x. plans.withName x (names.Bytes (a .1 .0))) (now (a .0))) p h
 
-pub plan-clear-name-length-kept : (κs : _) (a : _) (r : _) (e : _) → plan-clear-name-length.Learnt κs a r e → (r ≡ 0 → ⊥) → now (e .0) ≡ now (a .0)
-plan-clear-name-length-kept κs a r e p h = gives-kept p h
+pub ntske-plan-clear-name-length-refuses : (κs : _) (a : _) (r : _) (e : _) → plan-clear-name-length.Learnt κs a r e → (r ≡ 0 → ⊥) → (now (e .0) ≡ now (a .0)) × In (r % 65536) planNumbers
+ntske-plan-clear-name-length-refuses κs a r e p h = given-refuses (change-tells (λ x. plans.withName x names.None) (now (a .0))) p h
 
-pub plan-set-keep-alive-kept : (κs : _) (a : _) (r : _) (e : _) → plan-set-keep-alive.Learnt κs a r e → (r ≡ 0 → ⊥) → now (e .0) ≡ now (a .0)
-plan-set-keep-alive-kept κs a r e p h = gives-kept p h
+pub ntske-plan-set-keep-alive-refuses : (κs : _) (a : _) (r : _) (e : _) → plan-set-keep-alive.Learnt κs a r e → (r ≡ 0 → ⊥) → (now (e .0) ≡ now (a .0)) × In (r % 65536) planNumbers
+ntske-plan-set-keep-alive-refuses κs a r e p h = given-refuses (change-tells (λ x. plans.withKeepAlive x true) (now (a .0))) p h
 
-pub plan-clear-keep-alive-kept : (κs : _) (a : _) (r : _) (e : _) → plan-clear-keep-alive.Learnt κs a r e → (r ≡ 0 → ⊥) → now (e .0) ≡ now (a .0)
-plan-clear-keep-alive-kept κs a r e p h = gives-kept p h
+pub ntske-plan-clear-keep-alive-refuses : (κs : _) (a : _) (r : _) (e : _) → plan-clear-keep-alive.Learnt κs a r e → (r ≡ 0 → ⊥) → (now (e .0) ≡ now (a .0)) × In (r % 65536) planNumbers
+ntske-plan-clear-keep-alive-refuses κs a r e p h = given-refuses (change-tells (λ x. plans.withKeepAlive x false) (now (a .0))) p h
 
-pub plan-append-kept : (κs : _) (a : _) (r : _) (e : _) → plan-append.Learnt κs a r e → (r ≡ 0 → ⊥) → (now (e .0) ≡ now (a .0)) × (now (e .1 .1 .0) ≡ now (a .1 .1 .0))
-plan-append-kept κs a r e p h = appends-kept p h
+pub ntske-plan-append-refuses : (κs : _) (a : _) (r : _) (e : _) → plan-append.Learnt κs a r e → (r ≡ 0 → ⊥) → (now (e .0) ≡ now (a .0)) × (now (e .1 .1 .0) ≡ now (a .1 .1 .0)) × In (r % 65536) appendNumbers
+ntske-plan-append-refuses κs a r e p h = let k = appends-kept p h in (k .0, k .1, number-of (append-tells (now (a .0)) (now (a .1 .0)) (now (a .1 .1 .0))) (p .gives) h)
 
-pub plan-length-kept : (κs : _) (a : _) (r : _) (e : _) → plan-length.Learnt κs a r e → (r ≡ 0 → ⊥) → now (e .1 .1 .0) ≡ now (a .1 .1 .0)
-plan-length-kept κs a r e p h = gives-kept p h
+pub ntske-plan-length-refuses : (κs : _) (a : _) (r : _) (e : _) → plan-length.Learnt κs a r e → (r ≡ 0 → ⊥) → (now (e .1 .1 .0) ≡ now (a .1 .1 .0)) × In (r % 65536) planNumbers
+ntske-plan-length-refuses κs a r e p h = given-refuses (plan-length-tells (now (a .0)) (now (a .1 .0))) p h
 
-pub write-reply-kept : (κs : _) (a : _) (r : _) (e : _) → write-reply.Learnt κs a r e → (r ≡ 0 → ⊥) → (now (e .1 .1 .1 .0) ≡ now (a .1 .1 .1 .0)) × (now (e .1 .1 .1 .1 .0) ≡ now (a .1 .1 .1 .1 .0))
-write-reply-kept κs a r e p h = writes-kept p h
+pub ntske-write-reply-refuses : (κs : _) (a : _) (r : _) (e : _) → write-reply.Learnt κs a r e → (r ≡ 0 → ⊥) → (now (e .1 .1 .1 .0) ≡ now (a .1 .1 .1 .0)) × (now (e .1 .1 .1 .1 .0) ≡ now (a .1 .1 .1 .1 .0)) × In (r % 65536) replyWriterNumbers
+ntske-write-reply-refuses κs a r e p h = writes-refuses (write-reply-tells (now (a .0)) (now (a .1 .0)) (now (a .1 .1 .0)) (length (now (a .1 .1 .1 .0)))) p h
 
 -- ---- of `writing`: the output and the cell of its count; of a length, its cell; of an append, the cell of the used length and the tray
 
-pub write-no-protocol-kept : (κs : _) (a : _) (r : _) (e : _) → write-no-protocol.Learnt κs a r e → (r ≡ 0 → ⊥) → (now (e .0) ≡ now (a .0)) × (now (e .1 .0) ≡ now (a .1 .0))
-write-no-protocol-kept κs a r e p h = writes-kept p h
+pub ntske-write-no-protocol-refuses : (κs : _) (a : _) (r : _) (e : _) → write-no-protocol.Learnt κs a r e → (r ≡ 0 → ⊥) → (now (e .0) ≡ now (a .0)) × (now (e .1 .0) ≡ now (a .1 .0)) × In (r % 65536) roomNumbers
+ntske-write-no-protocol-refuses κs a r e p h = writes-refuses (fixed-tells 8 (omega arith) (length (now (a .0)))) p h
 
-pub write-no-algorithm-kept : (κs : _) (a : _) (r : _) (e : _) → write-no-algorithm.Learnt κs a r e → (r ≡ 0 → ⊥) → (now (e .1 .0) ≡ now (a .1 .0)) × (now (e .1 .1 .0) ≡ now (a .1 .1 .0))
-write-no-algorithm-kept κs a r e p h = writes-kept p h
+pub ntske-write-no-algorithm-refuses : (κs : _) (a : _) (r : _) (e : _) → write-no-algorithm.Learnt κs a r e → (r ≡ 0 → ⊥) → (now (e .1 .0) ≡ now (a .1 .0)) × (now (e .1 .1 .0) ≡ now (a .1 .1 .0)) × In (r % 65536) roomNumbers
+ntske-write-no-algorithm-refuses κs a r e p h = writes-refuses (fixed-tells 14 (omega arith) (length (now (a .1 .0)))) p h
 
-pub write-error-kept : (κs : _) (a : _) (r : _) (e : _) → write-error.Learnt κs a r e → (r ≡ 0 → ⊥) → (now (e .1 .0) ≡ now (a .1 .0)) × (now (e .1 .1 .0) ≡ now (a .1 .1 .0))
-write-error-kept κs a r e p h = writes-kept p h
+pub ntske-write-error-refuses : (κs : _) (a : _) (r : _) (e : _) → write-error.Learnt κs a r e → (r ≡ 0 → ⊥) → (now (e .1 .0) ≡ now (a .1 .0)) × (now (e .1 .1 .0) ≡ now (a .1 .1 .0)) × In (r % 65536) roomNumbers
+ntske-write-error-refuses κs a r e p h = writes-refuses (fixed-tells 10 (omega arith) (length (now (a .1 .0)))) p h
 
-pub write-support-reply-kept : (κs : _) (a : _) (r : _) (e : _) → write-support-reply.Learnt κs a r e → (r ≡ 0 → ⊥) → (now (e .1 .1 .1 .0) ≡ now (a .1 .1 .1 .0)) × (now (e .1 .1 .1 .1 .0) ≡ now (a .1 .1 .1 .1 .0))
-write-support-reply-kept κs a r e p h = writes-kept p h
+pub ntske-write-support-reply-refuses : (κs : _) (a : _) (r : _) (e : _) → write-support-reply.Learnt κs a r e → (r ≡ 0 → ⊥) → (now (e .1 .1 .1 .0) ≡ now (a .1 .1 .1 .0)) × (now (e .1 .1 .1 .1 .0) ≡ now (a .1 .1 .1 .1 .0)) × In (r % 65536) writerNumbers
+ntske-write-support-reply-refuses κs a r e p h = writes-refuses (write-support-tells (a .0) (now (a .1 .0)) (now (a .1 .1 .0)) (length (now (a .1 .1 .1 .0)))) p h
 
-pub support-reply-length-kept : (κs : _) (a : _) (r : _) (e : _) → support-reply-length.Learnt κs a r e → (r ≡ 0 → ⊥) → now (e .1 .1 .1 .0) ≡ now (a .1 .1 .1 .0)
-support-reply-length-kept κs a r e p h = gives-kept p h
+pub ntske-support-reply-length-refuses : (κs : _) (a : _) (r : _) (e : _) → support-reply-length.Learnt κs a r e → (r ≡ 0 → ⊥) → (now (e .1 .1 .1 .0) ≡ now (a .1 .1 .1 .0)) × In (r % 65536) lengthNumbers
+ntske-support-reply-length-refuses κs a r e p h = given-refuses (support-length-tells (a .0) (now (a .1 .0)) (now (a .1 .1 .0))) p h
 
-pub write-request-kept : (κs : _) (a : _) (r : _) (e : _) → write-request.Learnt κs a r e → (r ≡ 0 → ⊥) → (now (e .1 .1 .1 .1 .0) ≡ now (a .1 .1 .1 .1 .0)) × (now (e .1 .1 .1 .1 .1 .0) ≡ now (a .1 .1 .1 .1 .1 .0))
-write-request-kept κs a r e p h = writes-kept p h
+pub ntske-write-request-refuses : (κs : _) (a : _) (r : _) (e : _) → write-request.Learnt κs a r e → (r ≡ 0 → ⊥) → (now (e .1 .1 .1 .1 .0) ≡ now (a .1 .1 .1 .1 .0)) × (now (e .1 .1 .1 .1 .1 .0) ≡ now (a .1 .1 .1 .1 .1 .0)) × In (r % 65536) writerNumbers
+ntske-write-request-refuses κs a r e p h = writes-refuses (write-request-tells (now (a .0)) (now (a .1 .0)) (now (a .1 .1 .0)) (a .1 .1 .1 .0) (length (now (a .1 .1 .1 .1 .0)))) p h
 
-pub request-length-kept : (κs : _) (a : _) (r : _) (e : _) → request-length.Learnt κs a r e → (r ≡ 0 → ⊥) → now (e .1 .1 .1 .1 .0) ≡ now (a .1 .1 .1 .1 .0)
-request-length-kept κs a r e p h = gives-kept p h
+pub ntske-request-length-refuses : (κs : _) (a : _) (r : _) (e : _) → request-length.Learnt κs a r e → (r ≡ 0 → ⊥) → (now (e .1 .1 .1 .1 .0) ≡ now (a .1 .1 .1 .1 .0)) × In (r % 65536) lengthNumbers
+ntske-request-length-refuses κs a r e p h = given-refuses (request-length-tells (now (a .0)) (now (a .1 .0)) (now (a .1 .1 .0)) (a .1 .1 .1 .0)) p h
 
-pub append-denied-kept : (κs : _) (a : _) (r : _) (e : _) → append-denied.Learnt κs a r e → (r ≡ 0 → ⊥) → (now (e .1 .1 .0) ≡ now (a .1 .1 .0)) × (now (e .1 .0) ≡ now (a .1 .0))
-append-denied-kept κs a r e p h = denies-kept p h
+pub ntske-append-denied-refuses : (κs : _) (a : _) (r : _) (e : _) → append-denied.Learnt κs a r e → (r ≡ 0 → ⊥) → (now (e .1 .1 .0) ≡ now (a .1 .1 .0)) × (now (e .1 .0) ≡ now (a .1 .0)) × In (r % 65536) writerNumbers
+ntske-append-denied-refuses κs a r e p h = let k = denies-kept p h in (k .0, k .1, number-of (deny-tells (cell (now (a .1 .1 .0)) 0) (now (a .0)) (now (a .1 .0))) (p .gives) h)
 
-pub write-record-kept : (κs : _) (a : _) (r : _) (e : _) → write-record.Learnt κs a r e → (r ≡ 0 → ⊥) → (now (e .1 .1 .0) ≡ now (a .1 .1 .0)) × (now (e .1 .1 .1 .0) ≡ now (a .1 .1 .1 .0))
-write-record-kept κs a r e p h = writes-kept p h
+pub ntske-write-record-refuses : (κs : _) (a : _) (r : _) (e : _) → write-record.Learnt κs a r e → (r ≡ 0 → ⊥) → (now (e .1 .1 .0) ≡ now (a .1 .1 .0)) × (now (e .1 .1 .1 .0) ≡ now (a .1 .1 .1 .0)) × In (r % 65536) writerNumbers
+ntske-write-record-refuses κs a r e p h = writes-refuses (write-record-tells (now (a .0)) (now (a .1 .0)) (length (now (a .1 .1 .0)))) p h
 
-pub record-length-kept : (κs : _) (a : _) (r : _) (e : _) → record-length.Learnt κs a r e → (r ≡ 0 → ⊥) → now (e .1 .1 .0) ≡ now (a .1 .1 .0)
-record-length-kept κs a r e p h = gives-kept p h
+pub ntske-record-length-refuses : (κs : _) (a : _) (r : _) (e : _) → record-length.Learnt κs a r e → (r ≡ 0 → ⊥) → (now (e .1 .1 .0) ≡ now (a .1 .1 .0)) × In (r % 65536) lengthNumbers
+ntske-record-length-refuses κs a r e p h = given-refuses (record-length-tells (now (a .0)) (now (a .1 .0))) p h
 
 -- ---- of `showing`: the output and the cell of its count
 
-pub list-kept : (κs : _) (a : _) (r : _) (e : _) → list.Learnt κs a r e → (r ≡ 0 → ⊥) → (now (e .1 .1 .1 .0) ≡ now (a .1 .1 .1 .0)) × (now (e .1 .1 .1 .1 .0) ≡ now (a .1 .1 .1 .1 .0))
-list-kept κs a r e p h = writes-kept p h
+pub ntske-list-refuses : (κs : _) (a : _) (r : _) (e : _) → list.Learnt κs a r e → (r ≡ 0 → ⊥) → (now (e .1 .1 .1 .0) ≡ now (a .1 .1 .1 .0)) × (now (e .1 .1 .1 .1 .0) ≡ now (a .1 .1 .1 .1 .0)) × In (r % 65536) roomNumbers
+ntske-list-refuses κs a r e p h = writes-refuses (list-tells (now (a .0)) (a .1 .0) (a .1 .1 .0) (length (now (a .1 .1 .1 .0)))) p h

@@ -15,9 +15,9 @@ use Rattle.wire.proofs.Bytes.{number-back}
 use Rattle.utf8.specs.Utf8.{wellFormed}
 use Rattle.utf8.proofs.Tests.{and-left, and-right}
 use Rattle.nts.specs.Refusal.{Beside, nothing, code}
+use Rattle.layout.specs.Table.{rowOf, shapeOf, isUnknown}
 use Rattle.layout.specs.Write.{header}
 use Rattle.layout.specs.declared.Shape.the-variants.{Skipped, Numbers, Number, Bytes, Name}
-use Rattle.record.specs.Record.{shapeOf}
 use Rattle.walk.specs.Walk.{ends, refuses, Reader, Sighting}
 use Rattle.walk.specs.Judge.{no, yes, Under, Judge, some, bodyIn, refused, accepted, readBy}
 use Rattle.walk.specs.Message.{Each, flat, Shows}
@@ -101,24 +101,24 @@ some-kept false = refl
 
 module _ (x : Plan) (s : List ℕ) (utf8 : wellFormed s ≡ true) (l : List (List ℕ)) where
   server-noted : (y : NameLength) → Noted reply.reader (serverRecord y s) (λ k. cond (eqb 6 k) (bodySent (serverSent y s)) [])
-  unfolding shapeOf actBy known reply.act
-  server-noted name.None = noted-map reply.reader 6 (recordWith 6 true) [] tt
-  server-noted (name.Bytes n) = one-noted 6 true s (omega arith) reply.reader Name refl utf8 refl
+  unfolding shapeOf actBy known isUnknown rowOf reply.act
+  server-noted name.None = noted-map reply.reader 6 (recordWith 6) [] tt
+  server-noted (name.Bytes n) = one-noted 6 s (omega arith) reply.reader Name refl utf8 refl
 
   port-noted : (y : Port) → Noted reply.reader (portRecord y) (λ k. cond (eqb 7 k) (bodySent (portSent y)) [])
-  unfolding shapeOf bytesOf actBy known reply.act
-  port-noted port.None = noted-map reply.reader 7 (recordWith 7 true) [] tt
-  port-noted (port.Number n) = one-noted 7 true (bytesOf n) (omega arith) reply.reader Number refl refl refl
+  unfolding shapeOf bytesOf actBy known isUnknown rowOf reply.act
+  port-noted port.None = noted-map reply.reader 7 (recordWith 7) [] tt
+  port-noted (port.Number n) = one-noted 7 (bytesOf n) (omega arith) reply.reader Number refl refl refl
 
-  kept-noted : (y : Bool) → Noted reply.reader (ifAsked y (recordWith 8 false [])) (λ k. cond (eqb 8 k) (keptBodies y) [])
-  unfolding shapeOf actBy known reply.act
-  kept-noted true = one-noted 8 false [] (omega arith) reply.reader Skipped refl tt refl
-  kept-noted false = noted-map reply.reader 8 (recordWith 8 false) [] tt
+  kept-noted : (y : Bool) → Noted reply.reader (ifAsked y (recordWith 8 [])) (λ k. cond (eqb 8 k) (keptBodies y) [])
+  unfolding shapeOf actBy known isUnknown rowOf reply.act
+  kept-noted true = one-noted 8 [] (omega arith) reply.reader Skipped refl tt refl
+  kept-noted false = noted-map reply.reader 8 (recordWith 8) [] tt
 
-  cookies-noted : Noted reply.reader (map (recordWith 5 false) l) (λ k. cond (eqb 5 k) l [])
-  unfolding shapeOf actBy known reply.act
+  cookies-noted : Noted reply.reader (map (recordWith 5) l) (λ k. cond (eqb 5 k) l [])
+  unfolding shapeOf actBy known isUnknown rowOf reply.act
   cookies-noted =
-      noted-map reply.reader 5 (recordWith 5 false) l (each-all (λ b. notes-written 5 false b (omega arith) reply.reader Bytes refl tt refl) l)
+      noted-map reply.reader 5 (recordWith 5) l (each-all (λ b. notes-written 5 b (omega arith) reply.reader Bytes refl tt refl) l)
 
   abbrev replyBodies : ℕ → List (List ℕ)
   replyBodies k =
@@ -130,10 +130,10 @@ module _ (x : Plan) (s : List ℕ) (utf8 : wellFormed s ≡ true) (l : List (Lis
       ++ cond (eqb 5 k) l []))))
 
   reply-noted : Noted reply.reader (replyRecords x s l) replyBodies
-  unfolding shapeOf bytesOf actBy known reply.act
+  unfolding shapeOf bytesOf actBy known isUnknown rowOf reply.act
   reply-noted =
-      noted-append reply.reader (one-noted 1 true (bytesOf (x .protocol .0)) (omega arith) reply.reader Numbers refl refl refl)
-      (noted-append reply.reader (one-noted 4 true (bytesOf (x .algorithm .0)) (omega arith) reply.reader Numbers refl refl refl)
+      noted-append reply.reader (one-noted 1 (bytesOf (x .protocol .0)) (omega arith) reply.reader Numbers refl refl refl)
+      (noted-append reply.reader (one-noted 4 (bytesOf (x .algorithm .0)) (omega arith) reply.reader Numbers refl refl refl)
       (noted-append reply.reader (server-noted (x .name))
       (noted-append reply.reader (port-noted (x .port)) (noted-append reply.reader (kept-noted (x .«keep_alive»)) cookies-noted))))
 
@@ -157,7 +157,7 @@ module _ (x : Plan) (s : List ℕ) (utf8 : wellFormed s ≡ true) (l : List (Lis
       × (replyOf (messageOf (replyRecords x s l) ++ t) n room ≡ accepted q)
       × (reply.mapForm (bodyIn (messageOf (replyRecords x s l) ++ t)) q
       ≡ reply.reply (bytesOf (x .protocol .0)) (bytesOf (x .algorithm .0)) (serverSent (x .name) s) (portSent (x .port)) (x .«keep_alive») l)
-  unfolding replyOf shapeOf actBy known reply.act
+  unfolding replyOf shapeOf actBy known isUnknown rowOf reply.act
   reply-read t n room h g f =
       message-shows reply.reader reply.judging reply-lawful (record { limit = n; room = room }) (replyRecords x s l) t replyBodies reply-noted reply-once refl refl f _
       (reply-decided room h g)
@@ -167,11 +167,11 @@ module _ (x : Plan) (s : List ℕ) (utf8 : wellFormed s ≡ true) (l : List (Lis
 cells-even : (l : List ℕ) → length (cellBytes l) % 2 ≡ 0
 cells-even l = omega (arith, length-cells l)
 
-each-name : (l : List (List ℕ)) → allUtf8 l ≡ true → Each (λ b. Notes request.reader 13 b (recordWith 13 false b)) l
-unfolding shapeOf actBy known request.act
+each-name : (l : List (List ℕ)) → allUtf8 l ≡ true → Each (λ b. Notes request.reader 13 b (recordWith 13 b)) l
+unfolding shapeOf actBy known isUnknown rowOf request.act
 each-name [] h = tt
 each-name (b ∷ l) h = (
-  notes-written 13 false b (omega arith) request.reader Name refl (and-left (wellFormed b) (allUtf8 l) h) refl,
+  notes-written 13 b (omega arith) request.reader Name refl (and-left (wellFormed b) (allUtf8 l) h) refl,
   each-name l (and-right (wellFormed b) (allUtf8 l) h),
 )
 
@@ -181,12 +181,12 @@ module _ (protocols algorithms : List ℕ) (names : List (List ℕ)) (utf8 : all
       cond (eqb 1 k) (cellBytes protocols ∷ []) [] ++ (cond (eqb 4 k) (cellBytes algorithms ∷ []) [] ++ cond (eqb 13 k) names [])
 
   request-noted : Noted request.reader (requestRecords protocols algorithms names) requestBodies
-  unfolding shapeOf actBy known request.act
+  unfolding shapeOf actBy known isUnknown rowOf request.act
   request-noted =
-      noted-append request.reader (one-noted 1 true (cellBytes protocols) (omega arith) request.reader Numbers refl (cells-even protocols) refl)
+      noted-append request.reader (one-noted 1 (cellBytes protocols) (omega arith) request.reader Numbers refl (cells-even protocols) refl)
       (noted-append request.reader
-      (one-noted 4 true (cellBytes algorithms) (omega arith) request.reader Numbers refl (cells-even algorithms) refl)
-      (noted-map request.reader 13 (recordWith 13 false) names (each-name names utf8)))
+      (one-noted 4 (cellBytes algorithms) (omega arith) request.reader Numbers refl (cells-even algorithms) refl)
+      (noted-map request.reader 13 (recordWith 13) names (each-name names utf8)))
 
   request-once : (k : ℕ) → request.once k ≡ true → length (requestBodies k) ≤ 1
   unfolding request.once
@@ -211,7 +211,7 @@ module _ (protocols algorithms : List ℕ) (names : List (List ℕ)) (utf8 : all
       × (request.request (messageOf (requestRecords protocols algorithms names) ++ t) n room ≡ accepted q)
       × (request.mapForm (bodyIn (messageOf (requestRecords protocols algorithms names) ++ t)) q
       ≡ request.keyExchange (cellBytes protocols) (cellBytes algorithms) names)
-  unfolding request.request shapeOf actBy known
+  unfolding request.request shapeOf actBy known isUnknown rowOf
   request-read t n room g f =
       message-shows request.reader request.judging request-lawful (record { limit = n; room = room }) (requestRecords protocols algorithms names) t requestBodies
       request-noted request-once refl refl f _ (request-decided room g)
@@ -225,33 +225,33 @@ module _ (t : List ℕ) (n room : ℕ) where
   -- the reply that no protocol is agreed on is refusal 13, at its end record's place
   pub no-protocol-read : length (messageOf noProtocolRecords) ≤ n
       → replyOf (messageOf noProtocolRecords ++ t) n room ≡ refused (record { number = 13; beside = nothing; place = 4 })
-  unfolding replyOf recordOf header bytesOf shapeOf actBy known reply.act reply.decide
+  unfolding replyOf recordOf header bytesOf shapeOf actBy known isUnknown rowOf reply.act reply.decide
   no-protocol-read f =
       let l : ℕ → List (List ℕ) = λ k. cond (eqb 1 k) ([] ∷ []) [] in
       message-refused reply.reader reply.judging reply-lawful asked noProtocolRecords t l
-      (one-noted 1 true [] (omega arith) reply.reader Numbers refl refl refl)
+      (one-noted 1 [] (omega arith) reply.reader Numbers refl refl refl)
       (λ k o. reply-kinds (λ j. length (l j) ≤ 1) k o (omega arith) (omega arith) (omega arith) (omega arith))
       refl refl f 13 nothing refl
 
   -- the reply that no algorithm is agreed on, with whatever protocol, is refusal 14, at its end record's place
   pub no-algorithm-read : (p : ℕ) → length (messageOf (noAlgorithmRecords p)) ≤ n
       → replyOf (messageOf (noAlgorithmRecords p) ++ t) n room ≡ refused (record { number = 14; beside = nothing; place = 10 })
-  unfolding replyOf recordOf header bytesOf shapeOf actBy known reply.act reply.decide
+  unfolding replyOf recordOf header bytesOf shapeOf actBy known isUnknown rowOf reply.act reply.decide
   no-algorithm-read p f =
       let l : ℕ → List (List ℕ) = λ k. cond (eqb 1 k) (bytesOf p ∷ []) [] ++ cond (eqb 4 k) ([] ∷ []) [] in
       message-refused reply.reader reply.judging reply-lawful asked (noAlgorithmRecords p) t l
-      (noted-append reply.reader (one-noted 1 true (bytesOf p) (omega arith) reply.reader Numbers refl refl refl)
-      (one-noted 4 true [] (omega arith) reply.reader Numbers refl refl refl))
+      (noted-append reply.reader (one-noted 1 (bytesOf p) (omega arith) reply.reader Numbers refl refl refl)
+      (one-noted 4 [] (omega arith) reply.reader Numbers refl refl refl))
       (λ k o. reply-kinds (λ j. length (l j) ≤ 1) k o (omega arith) (omega arith) (omega arith) (omega arith))
       refl refl f 14 nothing refl
 
   -- an error reply is refusal 11 with its code, at the error record, which is the first
   pub error-read : (c : ℕ) → length (messageOf (errorRecords c)) ≤ n
       → replyOf (messageOf (errorRecords c) ++ t) n room ≡ refused (record { number = 11; beside = code c; place = 0 })
-  unfolding replyOf shapeOf bytesOf actBy known reply.act
+  unfolding replyOf shapeOf bytesOf actBy known isUnknown rowOf reply.act
   error-read c f =
-      let u = recordWith 2 true (bytesOf c) in
-      let a = act-written 2 true (bytesOf c) (omega arith) reply.reader ∙ ap (λ (k : ℕ). refuses 11 (code k)) (number-back c []) in
+      let u = recordWith 2 (bytesOf c) in
+      let a = act-written 2 (bytesOf c) (omega arith) reply.reader ∙ ap (λ (k : ℕ). refuses 11 (code k)) (number-back c []) in
       rw (append-nil, append-assoc)
-      (read-refused reply.reader reply.judging asked [] u (endRecord ++ t) 11 (code c) tt tt (whole-written 2 true (bytesOf c))
-      (faultless-written 2 true (bytesOf c) (omega arith) reply.reader Number refl refl) a (omega (arith, length-append (u ++ []) endRecord, length-append u [])))
+      (read-refused reply.reader reply.judging asked [] u (endRecord ++ t) 11 (code c) tt tt (whole-written 2 (bytesOf c))
+      (faultless-written 2 (bytesOf c) (omega arith) reply.reader Number refl refl) a (omega (arith, length-append (u ++ []) endRecord, length-append u [])))

@@ -12,16 +12,15 @@ use denote.Ref.{now}
 use Rattle.wire.specs.Bytes.{numberAt}
 use Rattle.wire.specs.Over.{bytesOf}
 use Rattle.wire.proofs.Bytes.{number-back}
-use Rattle.nts.specs.Refusal.{Refused, nothing, code, toldRefusal}
-use Rattle.nts.specs.declared.Refusal.{Refusal}
+use Rattle.nts.specs.Refusal.{Refused, nothing, code}
 use Rattle.nts.specs.declared.NextProtocol.{NextProtocol}
 use Rattle.nts.specs.declared.ErrorCode.{ErrorCode}
 use Rattle.layout.specs.Write.{bytes, fitted, Wrote}
 use Rattle.layout.specs.declared.ByteCount.{ByteCount}
 use Rattle.layout.specs.declared.ByteCount.the-variants.{Bytes}
 use Rattle.walk.specs.Walk.{Sighting}
-use Rattle.walk.specs.Judge.{refused, accepted}
-use Rattle.places.specs.Places.{roomOf}
+use Rattle.walk.specs.Judge.{Under, Answer, refused}
+use Rattle.walk.proofs.Demand3.{Showing}
 use Rattle.plan.specs.Tray.{cookiesIn, namesIn}
 use Rattle.plan.specs.Plan.{replyLength}
 use Rattle.plan.specs.declared.Plan.{Plan}
@@ -29,13 +28,6 @@ use Rattle.plan.specs.declared.Port.{Port}
 use Rattle.plan.specs.declared.Port.the-variants as port
 use Rattle.reply.specs.Reply as reply
 use Rattle.reply.specs.Reply.{Sent, notSent, sent, mapSent, replyOf}
-use Rattle.reply.specs.declared.KeyExchangeResponse.{KeyExchangeResponse}
-use Rattle.reply.specs.declared.Answer as reply-answer
-use Rattle.reply.specs.declared.Answer.the-variants as reply-answers
-use Rattle.request.specs.Request as request
-use Rattle.request.specs.declared.Request.{Request}
-use Rattle.request.specs.declared.Answer as request-answer
-use Rattle.request.specs.declared.Answer.the-variants as request-answers
 use Rattle.messages.specs.Messages.{cellBytes, allUtf8, messageOf, bodiesOf, replyRecords, replyChecked, noProtocolRecords, noAlgorithmRecords, errorRecords, requestRecords, requestLength, requestChecked}
 use Rattle.messages.proofs.Cleared.{reply-cleared, request-cleared, length-reply, length-request, length-no-protocol, length-no-algorithm, length-error, Stands, wrote-written}
 use Rattle.outgoing.proofs.write_reply.Reads as write-reply
@@ -45,11 +37,11 @@ use Rattle.declining.proofs.write_error.Reads as write-error
 use Rattle.outgoing.proofs.write_request.Reads as write-request
 use Rattle.promises.specs.Handed as request-hand
 use Rattle.promises.specs.HandedReply as reply-hand
-use Rattle.promises.proofs.Calls.{Face}
-use Rattle.promises.proofs.Handing.{request-face}
-use Rattle.promises.proofs.HandingReply.{inHand, reply-face}
-use Rattle.promises.proofs.Demand3 as request-call
-use Rattle.promises.proofs.Demand3Reply as reply-call
+use Rattle.promises.specs.Demand3.{Reader}
+use Rattle.promises.specs.Called.{ParseRequest, ParseReply, request-parse, reply-parse}
+use Rattle.promises.proofs.Steady.{Faithful}
+use Rattle.promises.proofs.Handing.{request-faithful}
+use Rattle.promises.proofs.HandingReply.{reply-faithful}
 use Rattle.promises.proofs.Halves.{serverSent, portSent, reply-read, request-read, no-protocol-read, no-algorithm-read, error-read}
 
 -- ---- calls of the writers: what each function's own contract says
@@ -110,30 +102,20 @@ pub record WroteError (c : ErrorCode) (out : List ℕ) (r : ByteCount) (after : 
 
 -- ---- of any reader: a call on the message m that stands at the front of an output, and any tail
 
-module _ {Q : Type 0 → Type 0} {X A S : Type 0} (F : Face Q X A S) (m after : List ℕ) (k : ℕ) (s : Stands m k after) (t : List ℕ) (n : ℕ) (table : List ℕ) (r : A)
-    (table′ : List ℕ) (c : F .Reads (take k after ++ t) n table r table′) where
-  same : take k after ++ t ≡ m ++ t
-  same = ap (λ (l : List ℕ). l ++ t) (s .front)
+module _ {Q : Type 0 → Type 0} {S : Type 0} {reading : List ℕ → Under → Answer Q} {shows : List ℕ → Q Sighting → Q (List ℕ)} {R : Reader S} {inHand : Q (List ℕ) → S}
+    (F : Faithful reading shows R inHand) (m after : List ℕ) (k : ℕ) (s : Stands m k after) (t : List ℕ) (c : R .Call) (asked : R .asked c ≡ take k after ++ t) where
+  same : R .asked c ≡ m ++ t
+  same = asked ∙ ap (λ (l : List ℕ). l ++ t) (s .front)
 
-  as-written : F .Reads (m ++ t) n table r table′
-  as-written = subst (λ (l : List ℕ). F .Reads l n table r table′) same c
+  -- the definition accepts and shows b: so does the call, and b is in hand
+  shown-back : (b : Q (List ℕ)) → Showing reading shows (m ++ t) (R .under c) b → R .Accepts c (inHand b)
+  shown-back b h =
+      let w = ap (λ (l : List ℕ). reading l (R .under c)) same ∙ h .1 in
+      subst (R .Accepts c) (ap inHand (ap (λ (l : List ℕ). shows l (h .0)) same ∙ h .2)) (F .accepts c (h .0) w)
 
-  -- the definition accepts and shows b: so does the call, and it hands out b
-  shown-back : (b : Q (List ℕ)) → ((q : Q Sighting) × (F .reading (m ++ t) n (roomOf table) ≡ accepted q) × (F .shows (m ++ t) q ≡ b))
-      → (x : X) × (r ≡ F .accept x) × (F .hand (take k after ++ t) table′ x ≡ F .inHand b)
-  shown-back b q =
-      let x = F .answers (m ++ t) n table r table′ as-written (q .0) (q .1) in (
-        x .0,
-        x .1,
-        ap (λ (l : List ℕ). F .hand l table′ (x .0)) same
-            ∙ F .in-hand (m ++ t) n table r table′ as-written (x .0) (q .0) (x .1) (q .1)
-            ∙ ap (F .inHand) (q .2),
-      )
-
-  -- the definition refuses: so does the call, and its table stays as it was
-  refused-back : (y : Refused) → F .reading (m ++ t) n (roomOf table) ≡ refused y
-      → (z : Refusal) × (r ≡ F .refuse z) × (toldRefusal z ≡ y) × (table′ ≡ table)
-  refused-back y w = F .refuses (m ++ t) n table r table′ as-written y w
+  -- the definition refuses: so does the call, and what was lent stays as it was
+  refused-back : (y : Refused) → reading (m ++ t) (R .under c) ≡ refused y → R .Refuses c y
+  refused-back y w = F .refuses c y (ap (λ (l : List ℕ). reading l (R .under c)) same ∙ w)
 
 -- ---- a reply
 
@@ -155,7 +137,7 @@ port-of port.None = refl
 port-of (port.Number n) = ap sent (number-of n)
 
 reply-in-hand : (x : Plan) (server : List ℕ) (l : List (List ℕ))
-    → inHand (reply.reply (bytesOf (x .protocol .0)) (bytesOf (x .algorithm .0)) (serverSent (x .name) server) (portSent (x .port)) (x .«keep_alive») l)
+    → reply-hand.inHand (reply.reply (bytesOf (x .protocol .0)) (bytesOf (x .algorithm .0)) (serverSent (x .name) server) (portSent (x .port)) (x .«keep_alive») l)
     ≡ reply-hand.reply (x .protocol .0) (x .algorithm .0) (serverSent (x .name) server) (portNumber (x .port)) (x .«keep_alive») (length l) l
 reply-in-hand x server l = rw (number-of (x .protocol .0), number-of (x .algorithm .0), port-of (x .port))
 
@@ -167,11 +149,9 @@ module _ (x : Plan) (tray server out : List ℕ) (k : ℕ) (after : List ℕ) (w
   -- whatever follows them, under every limit that is k or more, with a table that has room for the cookies, accepts, and hands out the plan's
   -- protocol and algorithm, the server's name and the port if they are planned, keep-alive as planned, and the tray's cookies in their order
   pub reply-read-back : (k ≤ length after)
-      × ((t : List ℕ) (n : ℕ) (table : List ℕ) (r : reply-answer.Answer) (table′ : List ℕ) → reply-call.Called (take k after ++ t) n table r table′
-      → k ≤ n → length (cookiesOf x tray) ≤ roomOf table
-      → (y : KeyExchangeResponse) × (r ≡ reply-answers.Accepted y)
-      × (reply-hand.handedOut (take k after ++ t) table′ y
-      ≡ reply-hand.reply (x .protocol .0) (x .algorithm .0) (serverSent (x .name) server) (portNumber (x .port)) (x .«keep_alive») (length (cookiesOf x tray))
+      × ((t : List ℕ) (c : ParseReply) → reply-parse .asked c ≡ take k after ++ t → k ≤ reply-parse .under c .limit → length (cookiesOf x tray) ≤ reply-parse .under c .room
+      → reply-parse .Accepts c
+      (reply-hand.reply (x .protocol .0) (x .algorithm .0) (serverSent (x .name) server) (portNumber (x .port)) (x .«keep_alive») (length (cookiesOf x tray))
       (cookiesOf x tray)))
   reply-read-back =
       let f = cookiesIn (x .used) tray in
@@ -183,10 +163,9 @@ module _ (x : Plan) (tray server out : List ℕ) (k : ℕ) (after : List ℕ) (w
       let some : 1 ≤ length l = rw e (j .some) in
       let s = v .stands (length-reply x server l (j .named) ∙ ap (replyLength x) e ∙ sym (j .long)) in (
         s .inside,
-        λ t n table r table′ c h g.
-            let d = reply-read x server (j .utf8) l t n (roomOf table) some g (omega (arith, s .long)) in
-            let b = shown-back reply-face m after k s t n table r table′ (reply-call.called-reads (take k after ++ t) n table r table′ c) _ d in
-            (b .0, b .1, b .2 ∙ reply-in-hand x server l),
+        λ t c a h g.
+            let d = reply-read x server (j .utf8) l t (reply-parse .under c .limit) (reply-parse .under c .room) some g (omega (arith, s .long)) in
+            subst (reply-parse .Accepts c) (reply-in-hand x server l) (shown-back reply-faithful m after k s t c a _ d),
       )
 
 -- ---- a request
@@ -203,11 +182,8 @@ module _ (protocols algorithms tray : List ℕ) (used : ℕ) (out : List ℕ) (k
   -- follows them, under every limit that is k or more, with a table that has room for the names, accepts a key-exchange request, and hands out
   -- the protocols, the algorithms and the tray's names, each in their order
   pub request-read-back : (k ≤ length after)
-      × ((t : List ℕ) (n : ℕ) (table : List ℕ) (r : request-answer.Answer) (table′ : List ℕ) → request-call.Called (take k after ++ t) n table r table′
-      → k ≤ n → length (namesOf used tray) ≤ roomOf table
-      → (y : Request) × (r ≡ request-answers.Accepted y)
-      × (request-hand.handedOut (take k after ++ t) table′ y
-      ≡ request-hand.keyExchange (cellBytes protocols) (cellBytes algorithms) (length (namesOf used tray)) (namesOf used tray)))
+      × ((t : List ℕ) (c : ParseRequest) → request-parse .asked c ≡ take k after ++ t → k ≤ request-parse .under c .limit → length (namesOf used tray) ≤ request-parse .under c .room
+      → request-parse .Accepts c (request-hand.keyExchange (cellBytes protocols) (cellBytes algorithms) (length (namesOf used tray)) (namesOf used tray)))
   request-read-back =
       let f = namesIn used tray in
       let l = namesOf used tray in
@@ -218,9 +194,9 @@ module _ (protocols algorithms tray : List ℕ) (used : ℕ) (out : List ℕ) (k
       let utf8 : allUtf8 l ≡ true = ap allUtf8 e ∙ j .utf8 in
       let s = v .stands (length-request protocols algorithms l ∙ ap (requestLength protocols algorithms) e ∙ sym (j .long)) in (
         s .inside,
-        λ t n table r table′ c h g.
-            let d = request-read protocols algorithms l utf8 t n (roomOf table) g (omega (arith, s .long)) in
-            shown-back request-face m after k s t n table r table′ (request-call.called-reads (take k after ++ t) n table r table′ c) _ d,
+        λ t c a h g.
+            let d = request-read protocols algorithms l utf8 t (request-parse .under c .limit) (request-parse .under c .room) g (omega (arith, s .long)) in
+            shown-back request-faithful m after k s t c a _ d,
       )
 
 -- ---- the other replies
@@ -233,9 +209,7 @@ same-count i k e = cc
 abbrev pub RefusedBack : ℕ → List ℕ → Refused → Type 1
 RefusedBack k after y =
     (k ≤ length after)
-    × ((t : List ℕ) (n : ℕ) (table : List ℕ) (r : reply-answer.Answer) (table′ : List ℕ) → reply-call.Called (take k after ++ t) n table r table′
-    → k ≤ n
-    → (z : Refusal) × (r ≡ reply-answers.Refused z) × (toldRefusal z ≡ y) × (table′ ≡ table))
+    × ((t : List ℕ) (c : ParseReply) → reply-parse .asked c ≡ take k after ++ t → k ≤ reply-parse .under c .limit → reply-parse .Refuses c y)
 
 -- a writer wrote a message of i bytes, which the definition refuses, whatever follows it, under every limit that holds it and with any room
 reply-refused-back : (i : ℕ) (m out after : List ℕ) (k : ℕ) (y : Refused) → Wrote (fitted (length out) (bytes i)) m out (Bytes k) after → length m ≡ i
@@ -245,9 +219,7 @@ reply-refused-back i m out after k y w l law =
     let e : i ≡ k = same-count i k (v .judged) in
     let s = v .stands (l ∙ e) in (
       s .inside,
-      λ t n table r table′ c h.
-          refused-back reply-face m after k s t n table r table′ (reply-call.called-reads (take k after ++ t) n table r table′ c) y
-          (law t n (roomOf table) (omega (arith, s .long))),
+      λ t c a h. refused-back reply-faithful m after k s t c a y (law t (reply-parse .under c .limit) (reply-parse .under c .room) (omega (arith, s .long))),
     )
 
 -- what a call of declining::write_no_protocol wrote, the reply reader's call refuses with 13 and nothing beside it, at its end record's place

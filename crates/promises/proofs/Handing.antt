@@ -23,17 +23,11 @@ use Rattle.request.specs.declared.Answer.{Answer}
 use Rattle.request.specs.declared.Answer.the-variants.{Accepted}
 use Rattle.request.specs.declared.Answer.the-variants as answer
 use Rattle.request.specs.Request.{Form, keyExchange, fixedKey, support, mapForm, request, firstHalf, secondHalf, toldForm, toldBy, toldRequest, toldAnswer, refusedWith, namesOf, tableAfter, Reads}
-use Rattle.request.proofs.Order.{InsideForm, accepted-inside}
+use Rattle.request.proofs.Order.{shows, reading, InsideForm, accepted-inside}
 use Rattle.promises.specs.Handed as hand
-use Rattle.promises.specs.Handed.{Shown, bytesAt, handedOut}
-use Rattle.promises.proofs.Calls.{Face}
-
--- what is in hand, from the bodies alone
-abbrev pub inHand : Form (List ℕ) → Shown
-inHand (keyExchange p a d) = hand.keyExchange p a (length d) d
-inHand (fixedKey u x a p k) =
-    hand.fixedKey u (take (length x / 2) x) (take (length x / 2) (drop (length x / 2) x)) (numberAt a 0) (numberAt p 0) k
-inHand (support u p a k) = hand.support u p a k
+use Rattle.promises.specs.Handed.{bytesAt, handedOut, inHand}
+use Rattle.promises.specs.Called.{request-parse}
+use Rattle.promises.proofs.Steady.{Faithful}
 
 -- ---- the parts
 
@@ -134,17 +128,15 @@ module _ (m : List ℕ) (n : ℕ) (table : List ℕ) (r : Answer) (table′ : Li
       go (Accepted x) e h = let z : _≡_ {A = ℕ} 0 1 = told-not x y h in absurd (omega arith)
       go (answer.Refused x) e h = (x, e, cc, same)
 
-abbrev pub request-face : Face Form Request Answer Shown
-request-face = record {
-  reading = request;
-  shows = λ m q. mapForm (bodyIn m) q;
-  Reads = Reads;
-  accept = Accepted;
-  refuse = answer.Refused;
-  hand = handedOut;
-  inHand = inHand;
-  answered = answered;
-  answers = answers;
-  in-hand = in-hand;
-  refuses = refuses;
+-- ---- so every call answers as the definition does
+
+pub request-faithful : Faithful reading shows request-parse inHand
+request-faithful = record {
+  accepted-by = λ c s h.
+      let q = answered _ _ _ _ _ (c .met) (h .0) (h .1) in
+      (q .0, q .1, sym (in-hand _ _ _ _ _ (c .met) (h .0) (q .0) (h .1) (q .1)) ∙ h .2);
+  accepts = λ c q w.
+      let x = answers _ _ _ _ _ (c .met) q w in
+      (x .0, x .1, in-hand _ _ _ _ _ (c .met) (x .0) q (x .1) w);
+  refuses = λ c y w. refuses _ _ _ _ _ (c .met) y w;
 }

@@ -21,15 +21,12 @@ use Rattle.reply.specs.declared.KeyExchangeResponse.{KeyExchangeResponse}
 use Rattle.reply.specs.declared.Answer.{Answer}
 use Rattle.reply.specs.declared.Answer.the-variants.{Accepted}
 use Rattle.reply.specs.declared.Answer.the-variants as answer
-use Rattle.reply.proofs.Order.{InsideSent, InsideForm, accepted-inside}
+use Rattle.reply.proofs.Order.{shows, reading, InsideSent, InsideForm, accepted-inside}
 use Rattle.promises.specs.Handed.{bytesAt}
 use Rattle.promises.specs.HandedReply as hand
-use Rattle.promises.specs.HandedReply.{Shown, handedOut}
-use Rattle.promises.proofs.Calls.{Face}
-
--- what is in hand, from the bodies alone
-abbrev pub inHand : Form (List ℕ) → Shown
-inHand (reply p a s t k c) = hand.reply (numberAt p 0) (numberAt a 0) s (mapSent (λ (b : List ℕ). numberAt b 0) t) k (length c) c
+use Rattle.promises.specs.HandedReply.{handedOut, inHand}
+use Rattle.promises.specs.Called.{reply-parse}
+use Rattle.promises.proofs.Steady.{Faithful}
 
 module _ (m : List ℕ) where
   server-body : (s : Sent Sighting) → InsideSent (length m) s → mapSent (bytesAt m) (mapSent partOf s) ≡ mapSent (bodyIn m) s
@@ -94,17 +91,15 @@ module _ (m : List ℕ) (n : ℕ) (table : List ℕ) (r : Answer) (table′ : Li
       go (Accepted x) e h = let z : _≡_ {A = ℕ} 0 1 = cc in absurd (omega arith)
       go (answer.Refused x) e h = (x, e, cc, same)
 
-abbrev pub reply-face : Face Form KeyExchangeResponse Answer Shown
-reply-face = record {
-  reading = replyOf;
-  shows = λ m q. mapForm (bodyIn m) q;
-  Reads = Reads;
-  accept = Accepted;
-  refuse = answer.Refused;
-  hand = handedOut;
-  inHand = inHand;
-  answered = answered;
-  answers = answers;
-  in-hand = in-hand;
-  refuses = refuses;
+-- ---- so every call answers as the definition does
+
+pub reply-faithful : Faithful reading shows reply-parse inHand
+reply-faithful = record {
+  accepted-by = λ c s h.
+      let q = answered _ _ _ _ _ (c .met) (h .0) (h .1) in
+      (q .0, q .1, sym (in-hand _ _ _ _ _ (c .met) (h .0) (q .0) (h .1) (q .1)) ∙ h .2);
+  accepts = λ c q w.
+      let x = answers _ _ _ _ _ (c .met) q w in
+      (x .0, x .1, in-hand _ _ _ _ _ (c .met) (x .0) q (x .1) w);
+  refuses = λ c y w. refuses _ _ _ _ _ (c .met) y w;
 }

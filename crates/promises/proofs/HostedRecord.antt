@@ -13,9 +13,10 @@ use Rattle.layout.specs.Write.{recordBytes, Count, bytes, refused, measured, fi
 use Rattle.record.specs.Laid.{layoutOf}
 use Rattle.record.specs.declared.NtsRecord.{NtsRecord}
 use Rattle.cells.specs.Cells.{Writes}
-use Rattle.cells.proofs.Lent.{writes-granted, count-fitted}
+use Rattle.cells.proofs.Lent.{writes-granted}
 use Rattle.writing.specs.Given.{Held, noRecord, held, recordIn, heldLength, heldBytes}
-use Rattle.promises.proofs.Granting.{held-sure}
+use Rattle.promises.proofs.Refusing.{sure-of}
+use Rattle.promises.proofs.Telling.{write-record-tells}
 
 -- what fits was measured
 fitted-was : (room n : ℕ) (a : Count) → fitted room a ≡ bytes n → a ≡ bytes n
@@ -43,7 +44,7 @@ unfolding over
 written {c} {s} {o} {lent} {o′} {w} {r} p z = go (recordIn c) refl (fitted-was (length o) (g .0) (heldLength (recordIn c) s) (g .1)) (g .2)
   where
     g : (n : ℕ) × (fitted (length o) (heldLength (recordIn c) s) ≡ bytes n) × (o′ ≡ over (heldBytes (recordIn c) s) o) × (w ≡ n ∷ [])
-    g = writes-granted p (count-fitted (length o) (heldLength (recordIn c) s) (held-sure (recordIn c) s)) z
+    g = writes-granted p (sure-of (write-record-tells c s (length o))) z
 
     go : (h : Held) → recordIn c ≡ h → heldLength h s ≡ bytes (g .0) → o′ ≡ over (heldBytes h s) o → Written c s o o′ w
     go noRecord e m l = let k : _≡_ {A = ℕ} 0 1 = cc in absurd (omega arith)

@@ -4,6 +4,7 @@ use mathlib.Core.Path.{_≡_, refl, sym, ap, _∙_}
 use mathlib.Core.List.{List}
 use mathlib.Core.Bool.{cond}
 use Prim.Native.Nat.{ℕ}
+use native.Mathlib.Omega.{arith}
 use lib.ListN.{length}
 use lib.Dec.{eqb}
 use Rattle.wire.specs.Bytes.{numberAt, partAt}
@@ -22,14 +23,18 @@ use Rattle.reply.specs.declared.Port.{Port}
 use Rattle.reply.specs.declared.Port.the-variants as port
 use Rattle.reply.specs.declared.Answer.the-variants.{Accepted}
 use Rattle.reply.specs.Reply.{Sent, sent, notSent, mapSent, Form, reply, mapForm, replyOf, toldForm, toldBy, toldServer, toldPort, toldReply, cookiesOf, tableAfter, Reads}
+use Rattle.reply.proofs.Order.{shows, reading}
 use Rattle.reply.proofs.Numbered.{reply-numbered}
 use Rattle.cells.specs.Cells.{word, returned, held}
 use Rattle.reading.specs.Read.{serverThere, serverName, portThere, portNumber, replyGiven, ReadsReply}
 use Rattle.promises.specs.Handed.{bytesAt}
-use Rattle.promises.specs.HandedReply.{Shown, handedOut}
+use Rattle.promises.specs.HandedReply.{Shown, handedOut, inHand}
+use Rattle.promises.specs.Numbers.{Table}
 use Rattle.promises.specs.Cells.{replyInHand}
-use Rattle.promises.proofs.HandingReply.{inHand, in-hand}
-use Rattle.promises.proofs.Hosted.{Hosted}
+use Rattle.promises.proofs.HandingReply.{in-hand}
+use Rattle.promises.specs.Called.{reply-read}
+use Rattle.promises.proofs.Steady.{Faithful}
+use Rattle.promises.proofs.Hosted.{Hosted, granted}
 use Rattle.promises.proofs.HostedRequest.{flag-back}
 
 -- ---- the reply that an accepted message tells
@@ -97,11 +102,21 @@ module _ {m : List ℕ} {n : ℕ} {table lent : List ℕ} {r : ℕ} {table′ af
 abbrev pub hosted-reply : Hosted Form Shown
 hosted-reply = record {
   reading = replyOf;
-  shows = λ m q. mapForm (bodyIn m) q;
+  shows = shows;
   Reads = ReadsReply;
   hand = replyInHand;
   inHand = inHand;
   grants = reply-grants;
   refuses = reply-refuses;
-  numbered = reply-numbered;
+  numbered = reply-numbered Table (omega arith);
+}
+
+-- so every call answers as the definition does
+pub reply-hosted : Faithful reading shows reply-read inHand
+reply-hosted = record {
+  accepted-by = λ c s h.
+      let q = granted hosted-reply (c .met) (h .0) in
+      (q .0, q .1, sym (reply-grants (c .met) (q .0) (q .1) .1) ∙ h .1);
+  accepts = λ c q w. reply-grants (c .met) q w;
+  refuses = λ c y w. reply-refuses (c .met) y w;
 }

@@ -4,6 +4,7 @@ use mathlib.Core.Path.{_≡_, refl, sym, ap, _∙_}
 use mathlib.Core.List.{List}
 use mathlib.Core.Bool.{Bool, true, false}
 use Prim.Native.Nat.{ℕ}
+use native.Mathlib.Omega.{arith}
 use lib.ListN.{length}
 use lib.Dec.{eqb}
 use Rattle.wire.specs.Bytes.{numberAt}
@@ -18,13 +19,17 @@ use Rattle.request.specs.declared.Request.{Request}
 use Rattle.request.specs.declared.Request.the-variants.{KeyExchange, FixedKey, Support}
 use Rattle.request.specs.declared.Answer.the-variants.{Accepted}
 use Rattle.request.specs.Request.{Form, keyExchange, fixedKey, support, mapForm, request, firstHalf, secondHalf, toldForm, toldBy, toldRequest, namesOf, tableAfter, Reads}
+use Rattle.request.proofs.Order.{shows, reading}
 use Rattle.request.proofs.Numbered.{request-numbered}
 use Rattle.cells.specs.Cells.{word, returned, held, flag}
 use Rattle.reading.specs.Read.{requestGiven, ReadsRequest}
-use Rattle.promises.specs.Handed.{Shown, handedOut}
+use Rattle.promises.specs.Handed.{Shown, handedOut, inHand}
+use Rattle.promises.specs.Numbers.{Table}
 use Rattle.promises.specs.Cells.{requestInHand}
-use Rattle.promises.proofs.Handing.{inHand, in-hand}
-use Rattle.promises.proofs.Hosted.{Hosted}
+use Rattle.promises.proofs.Handing.{in-hand}
+use Rattle.promises.specs.Called.{request-read}
+use Rattle.promises.proofs.Steady.{Faithful}
+use Rattle.promises.proofs.Hosted.{Hosted, granted}
 
 -- ---- the request that an accepted message tells
 
@@ -77,11 +82,21 @@ module _ {m : List ℕ} {n : ℕ} {table lent : List ℕ} {r : ℕ} {table′ af
 abbrev pub hosted-request : Hosted Form Shown
 hosted-request = record {
   reading = request;
-  shows = λ m q. mapForm (bodyIn m) q;
+  shows = shows;
   Reads = ReadsRequest;
   hand = requestInHand;
   inHand = inHand;
   grants = request-grants;
   refuses = request-refuses;
-  numbered = request-numbered;
+  numbered = request-numbered Table (omega arith);
+}
+
+-- so every call answers as the definition does
+pub request-hosted : Faithful reading shows request-read inHand
+request-hosted = record {
+  accepted-by = λ c s h.
+      let q = granted hosted-request (c .met) (h .0) in
+      (q .0, q .1, sym (request-grants (c .met) (q .0) (q .1) .1) ∙ h .1);
+  accepts = λ c q w. request-grants (c .met) q w;
+  refuses = λ c y w. request-refuses (c .met) y w;
 }

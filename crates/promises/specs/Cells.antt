@@ -15,7 +15,7 @@ use Rattle.promises.specs.HandedReply as reply
 abbrev pub partIn : List ℕ → List ℕ → ℕ → ℕ → List ℕ
 partIn m c i j = partAt m (cell c i) (cell c j)
 
--- of a message, the table after the call, and the ten cells
+-- of a message, the table after the call, and the ten cells; the first cell is the request's sort, and a call that returned 0 put 1, 2 or 3 there
 abbrev pub requestInHand : List ℕ → List ℕ → List ℕ → request.Shown
 requestInHand m table c =
     cond (eqb (cell c 0) 1)

@@ -2,8 +2,11 @@
 use Prim.Native.Nat.{ℕ}
 use mathlib.Core.List.{List}
 use mathlib.Core.Bool.{Bool}
+use lib.ListN.{length}
+use Rattle.wire.specs.Bytes.{numberAt}
 use Rattle.layout.specs.declared.Part.{Part}
 use Rattle.places.specs.Places.{entriesFrom}
+use Rattle.reply.specs.Reply as form
 use Rattle.reply.specs.Reply.{Sent, mapSent, toldServer, toldPort}
 use Rattle.reply.specs.declared.KeyExchangeResponse.{KeyExchangeResponse}
 use Rattle.promises.specs.Handed.{bytesAt}
@@ -18,3 +21,7 @@ abbrev pub handedOut : List ℕ → List ℕ → KeyExchangeResponse → Shown
 handedOut m table x =
     reply (x .protocol .0) (x .algorithm .0) (mapSent (bytesAt m) (toldServer (x .server))) (toldPort (x .port)) (x .«keep_alive») (x .cookies)
     (entriesFrom m table 0 (x .cookies))
+
+-- what is in hand, from the bodies that the definition shows (reply/specs/Reply.antt)
+abbrev pub inHand : form.Form (List ℕ) → Shown
+inHand (form.reply p a s t k c) = reply (numberAt p 0) (numberAt a 0) s (mapSent (λ (b : List ℕ). numberAt b 0) t) k (length c) c

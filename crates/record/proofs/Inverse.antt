@@ -8,9 +8,10 @@ use native.Mathlib.Omega.{arith}
 use borrow.Author.Tests.{eqb-true, eqb-false}
 use lib.Dec.{eqb}
 use Rattle.nts.specs.Refusal.{Refused, nothing}
+use Rattle.layout.specs.Table.{shapeOf}
 use Rattle.layout.specs.declared.Shape.{Shape}
 use Rattle.layout.specs.declared.Shape.the-variants.{Skipped, Numbers, Number, Bytes, Name, Pairs, Halves, Unknown}
-use Rattle.record.specs.Record.{kind, critical, size, there, shapeOf, fault, Value, skipped, number, part, halves, unknown, valueOf, Seen, seenOf, Told, read, refused, readFrom, whole, broken, lookFrom}
+use Rattle.record.specs.Record.{kind, critical, size, there, fault, Value, skipped, number, part, halves, unknown, valueOf, Seen, seenOf, Told, read, refused, readFrom, whole, broken, lookFrom}
 
 -- a record that was read at the front of t, which begins at `at`
 pub record WasRead (at : ℕ) (t : List ℕ) (x : Seen) (next : ℕ) : Type 0 where

@@ -12,8 +12,9 @@ use lib.Dec.{eqb}
 use lib.Seq.{take-all}
 use Rattle.wire.specs.Bytes.{numberAt}
 use Rattle.nts.specs.Refusal.{nothing}
+use Rattle.layout.specs.Table.{shapeOf}
 use Rattle.layout.specs.declared.Shape.{Shape}
-use Rattle.record.specs.Record.{kindOf, criticalOf, kind, critical, size, there, shapeOf, faultOf, fault, Seen, seenOf, read, refused, readFrom, readAt, whole, broken, lookFrom, lookAt}
+use Rattle.record.specs.Record.{kindOf, criticalOf, kind, critical, size, there, faultOf, fault, Seen, seenOf, read, refused, readFrom, readAt, whole, broken, lookFrom, lookAt}
 use Rattle.record.proofs.Inverse.{whole-was}
 use Rattle.record.proofs.Whole.{body-fault, there-length}
 

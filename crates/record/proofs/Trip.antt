@@ -7,31 +7,40 @@ use Prim.{Unit}
 use Prim.Native.Nat.{ℕ, _+_, _-_, _*_, _/_, _%_, _<_, _≤_}
 use native.Mathlib.Nat.{add-zero}
 use native.Mathlib.Omega.{arith}
-use borrow.Author.Tests.{leb-true, leb-false, ltb-false, eqb-true, le-leb, lt-leb, le-ltb, eq-eqb, ne-eqb}
-use lib.Dec.{leb, ltb, eqb}
+use borrow.Author.Tests.{leb-true, ltb-false, eqb-true, le-leb, lt-leb, le-ltb, eq-eqb, ne-eqb}
+use lib.Dec.{ltb, eqb}
 use lib.ListN.{length, take, drop, getD, length-append, length-take, length-drop}
 use lib.Seq.{getD-drop, take-add, take-at, drop-at, drop-drop}
 use Rattle.utf8.specs.Utf8.{wellFormed}
 use Rattle.utf8.proofs.Tests.{on}
-use Rattle.utf8.proofs.Below.{below}
 use Rattle.wire.specs.Bytes.{numberAt, partAt}
 use Rattle.wire.specs.Over.{bytesOf}
 use Rattle.wire.proofs.Bytes.{number-back, number-drop, length-part, part-empty, part-between, part-join, part-at, bytes-back}
 use Rattle.nts.specs.Refusal.{nothing}
-use Rattle.layout.specs.Write.{isUnknown, isSound, isRecord, isNumber, bodySize, bodyOf, wordOf, header, recordBytes, bytes, measured}
+use Rattle.layout.specs.Table.{rowOf, shapeOf, bitOf, isUnknown}
+use Rattle.layout.specs.Write.{isSound, isRecord, isNumber, bodySize, bodyOf, wordOf, header, recordBytes, bytes, measured}
 use Rattle.layout.specs.declared.Part.{Part}
 use Rattle.layout.specs.declared.Shape.{Shape}
 use Rattle.layout.specs.declared.Shape.the-variants as shape
 use Rattle.layout.specs.declared.Layout.{Layout}
+use Rattle.layout.proofs.Table.{unknown-numbers, unknown-shape, shape-unknown, unknown-bit, skipped-numbers}
 use Rattle.layout.proofs.Writing.{sound, sound-record, length-body, just-long, measured-long}
-use Rattle.record.specs.Record.{kindOf, criticalOf, kind, critical, size, there, shapeOf, short, uneven, notNumber, notHalves, notUtf8, firstOf, notName, faultOf, fault, Value, skipped, number, part, halves, unknown, valueOf, Seen, seenOf, read, refused, readFrom, readAt}
-use Rattle.record.specs.Told.{valueOfRecord, toldRecord}
-use Rattle.record.specs.Laid.{none, laid, laidNumber, layoutOf}
-use Rattle.record.specs.Shown.{heldIn, shown, bitOf, canonical}
+use Rattle.record.specs.Record.{kindOf, criticalOf, kind, critical, size, there, short, uneven, notNumber, notHalves, notUtf8, firstOf, notName, faultOf, fault, Value, skipped, number, part, halves, unknown, valueOf, Seen, seenOf, read, refused, readFrom, readAt}
+use Rattle.record.specs.Told.{kindOfRecord, valueOfRecord, toldRecord}
+use Rattle.record.specs.Laid.{none, layoutBy, layoutOf}
+use Rattle.record.specs.Shown.{heldIn, shown, givenBy, givenBit, canonical}
 use Rattle.record.specs.Shown as held
 use Rattle.record.specs.declared.NtsRecord.{NtsRecord}
 use Rattle.record.specs.declared.NtsRecord.the-variants as r
 use Rattle.record.proofs.Read.{faultless}
+
+-- a layout by its kind, the bit written, what the body holds, and its parts; one part alone has an empty second
+abbrev laid : ℕ → Bool → Shape → Part → Part → Layout
+laid k bit shape a b = record { kind = k; critical = bit; shape = shape; number = 0; first = a; second = b }
+
+-- and one whose body is a number
+abbrev laidNumber : ℕ → Bool → ℕ → Layout
+laidNumber k bit n = record { kind = k; critical = bit; shape = shape.Number; number = n; first = none; second = none }
 
 -- ---- a body without a fault
 
@@ -60,18 +69,6 @@ good-faultless shape.Name n b e g = rw g (whole n b e)
 good-faultless shape.Pairs n b e g = rw (eq-eqb (n % 4) 0 g) (whole n b e)
 good-faultless shape.Halves n b e g = rw (le-ltb (length b) (2 * (n / 2)) (omega arith), eq-eqb (n % 2) 0 g)
 good-faultless shape.Unknown n b e g = whole n b e
-
--- ---- a number without a name
-
-unknown-shape : (k : ℕ) → isUnknown k ≡ true → shapeOf k ≡ shape.Unknown
-unfolding isUnknown shapeOf
-unknown-shape k e =
-    on (eqb k 11)
-    (λ t. rw (eqb-true k 11 t))
-    (λ t.
-    let h : 15 ≤ k = leb-true 15 k (rw t at e) in
-    let far : (c : ℕ) → c < 15 → eqb k c ≡ false = λ c i. ne-eqb k c (λ z. omega arith) in
-    simp (far 0 (omega arith), far 1 (omega arith), far 2 (omega arith), far 3 (omega arith), far 4 (omega arith), far 5 (omega arith), far 6 (omega arith), far 7 (omega arith), far 8 (omega arith), far 9 (omega arith), far 10 (omega arith), far 12 (omega arith), far 13 (omega arith), far 14 (omega arith)))
 
 -- ---- the header comes back
 
@@ -146,7 +143,7 @@ module _ (k : ℕ) (bit : Bool) (s : List ℕ) where
   unfolding valueOf heldIn
   skipped-forth = record { good = tt; same = λ q t start e. refl }
 
-  number-forth : (n : ℕ) → Forth (laidNumber k n) (number n) s
+  number-forth : (n : ℕ) → Forth (laidNumber k bit n) (number n) s
   unfolding valueOf heldIn bodySize bodyOf isNumber bytesOf
   number-forth n = record { good = refl; same = λ q t start e. ap held.number (number-back n []) }
 
@@ -198,23 +195,13 @@ module _ (k : ℕ) (bit : Bool) (s : List ℕ) where
       }
 
 -- a kind's number says what its body holds
-shaped : (x : NtsRecord) (s : List ℕ) → isRecord (layoutOf x) s ≡ true → shapeOf (layoutOf x .kind) ≡ layoutOf x .shape
-unfolding shapeOf isSound
-shaped r.EndOfMessage s is = refl
-shaped (r.NextProtocol p) s is = refl
-shaped (r.Error c) s is = refl
-shaped (r.Warning c) s is = refl
-shaped (r.AeadAlgorithm p) s is = refl
-shaped (r.NewCookie p) s is = refl
-shaped (r.Server p) s is = refl
-shaped (r.Port n) s is = refl
-shaped r.KeepAlive s is = refl
-shaped (r.SupportedNextProtocolList p) s is = refl
-shaped (r.SupportedAlgorithmList p) s is = refl
-shaped (r.FixedKeyRequest a b) s is = refl
-shaped (r.NtpServerDeny p) s is = refl
-shaped (r.Authentication p) s is = refl
-shaped (r.Unknown k bit p) s is = unknown-shape k (sound (layoutOf (r.Unknown k bit p)) s is .body)
+shaped : (k : ℕ) (v : Value) (s : List ℕ) → isRecord (layoutBy k v) s ≡ true → shapeOf (layoutBy k v .kind) ≡ layoutBy k v .shape
+unfolding isSound
+shaped k skipped s is = refl
+shaped k (number n) s is = refl
+shaped k (part a n) s is = refl
+shaped k (halves a n b m) s is = refl
+shaped k (unknown bit a n) s is = unknown-shape k (sound (layoutBy k (unknown bit a n)) s is .body)
 
 module _ (k : ℕ) (bit : Bool) (s : List ℕ) (p : Part) where
   numbers-forth : isRecord (laid k bit shape.Numbers p none) s ≡ true → Forth (laid k bit shape.Numbers p none) (part (p .start) (p .len)) s
@@ -236,6 +223,7 @@ module _ (k : ℕ) (bit : Bool) (s : List ℕ) (p : Part) where
       part-forth k bit s p shape.Pairs refl (λ start n b. refl) (eqb-true (p .len % 4) 0 (sound (laid k bit shape.Pairs p none) s is .body)) is
 
 forth : (x : NtsRecord) (s : List ℕ) → isRecord (layoutOf x) s ≡ true → Forth (layoutOf x) (valueOfRecord x) s
+unfolding rowOf shapeOf bitOf
 forth r.EndOfMessage s is = skipped-forth 0 true s
 forth (r.NextProtocol p) s is = numbers-forth 1 true s p is
 forth (r.Error c) s is = number-forth 2 true s (c .0)
@@ -252,22 +240,24 @@ forth (r.NtpServerDeny p) s is = name-forth 13 false s p is
 forth (r.Authentication p) s is = name-forth 14 false s p is
 forth (r.Unknown k bit p) s is = unknown-forth k bit s p is
 
-told-kind : (x : NtsRecord) → layoutOf x .kind ≡ toldRecord x .kind
-told-kind r.EndOfMessage = refl
-told-kind (r.NextProtocol p) = refl
-told-kind (r.Error c) = refl
-told-kind (r.Warning c) = refl
-told-kind (r.AeadAlgorithm p) = refl
-told-kind (r.NewCookie p) = refl
-told-kind (r.Server p) = refl
-told-kind (r.Port n) = refl
-told-kind r.KeepAlive = refl
-told-kind (r.SupportedNextProtocolList p) = refl
-told-kind (r.SupportedAlgorithmList p) = refl
-told-kind (r.FixedKeyRequest a b) = refl
-told-kind (r.NtpServerDeny p) = refl
-told-kind (r.Authentication p) = refl
-told-kind (r.Unknown k bit p) = refl
+laid-kind : (k : ℕ) (v : Value) → layoutBy k v .kind ≡ k
+laid-kind k skipped = refl
+laid-kind k (number n) = refl
+laid-kind k (part a n) = refl
+laid-kind k (halves a n b m) = refl
+laid-kind k (unknown bit a n) = refl
+
+told-kind : (x : NtsRecord) → layoutOf x .kind ≡ kindOfRecord x
+told-kind x = laid-kind (kindOfRecord x) (valueOfRecord x)
+
+-- the bit of a record laid out is the table's, and of an unknown record the one given
+laid-bit : (k : ℕ) (v : Value) (s : List ℕ) → isRecord (layoutBy k v) s ≡ true → layoutBy k v .critical ≡ bitOf k (givenBy v)
+unfolding isSound
+laid-bit k skipped s is = refl
+laid-bit k (number n) s is = refl
+laid-bit k (part a n) s is = refl
+laid-bit k (halves a n b m) s is = refl
+laid-bit k (unknown bit a n) s is = sym (unknown-bit k bit (sound (layoutBy k (unknown bit a n)) s is .body))
 
 module _ (x : NtsRecord) (s : List ℕ) (n : ℕ) (m : measured (layoutOf x) s ≡ bytes n) where
   -- a record that was written, anywhere in a message, is read back: exactly its bytes are taken, and it holds the same
@@ -281,7 +271,7 @@ module _ (x : NtsRecord) (s : List ℕ) (n : ℕ) (m : measured (layoutOf x) s �
       let is = measured-long l s n (sym m) .is in
       let z = measured-long l s n (sym m) .whole in
       let f = forth x s is in
-      let e = shaped x s is in
+      let e = shaped (kindOfRecord x) (valueOfRecord x) s is in
       let y = seenOf (l .kind) (l .critical) (length p + 4) (bodySize l) (bodyOf l s) in
       let h : length p + 4 + bodySize l ≡ length p + n = omega arith in
       let q = p ++ header (wordOf (l .kind) (l .critical)) (bodySize l) in
@@ -293,11 +283,12 @@ module _ (x : NtsRecord) (s : List ℕ) (n : ℕ) (m : measured (layoutOf x) s �
       )
 
   -- the bit that is read is the one that the table says, and of an unknown record the one given
-  pub written-bit : (t : List ℕ) → critical (recordBytes (layoutOf x) s ++ t) ≡ layoutOf x .critical
+  pub written-bit : (t : List ℕ) → critical (recordBytes (layoutOf x) s ++ t) ≡ bitOf (kindOfRecord x) (givenBit x)
   unfolding critical
   written-bit t =
       let l = layoutOf x in
-      ap criticalOf (word-back l s t) ∙ word-bit (l .kind) (l .critical) (sound l s (measured-long l s n (sym m) .is) .kind)
+      let is = measured-long l s n (sym m) .is in
+      ap criticalOf (word-back l s t) ∙ word-bit (l .kind) (l .critical) (sound l s is .kind) ∙ laid-bit (kindOfRecord x) (valueOfRecord x) s is
 
 -- ---- a body that was read without a fault
 
@@ -342,28 +333,6 @@ faultless-good shape.Halves n b e =
     let y = eqb-true (n % 2) 0 (failed (eqb (n % 2) 0) 0 2 (omega arith) (x .1) .0) in
     (omega (arith, ltb-false (length b) (2 * (n / 2)) (x .0)), y)
 faultless-good shape.Unknown n b e = (not-short n (length b) e, tt)
-
--- ---- a number whose body is unknown has no name
-
-isOther : Shape → Bool
-isOther shape.Skipped = false
-isOther shape.Numbers = false
-isOther shape.Number = false
-isOther shape.Bytes = false
-isOther shape.Name = false
-isOther shape.Pairs = false
-isOther shape.Halves = false
-isOther shape.Unknown = true
-
-shape-unknown : (k : ℕ) → shapeOf k ≡ shape.Unknown → isUnknown k ≡ true
-unfolding shapeOf isUnknown isOther
-shape-unknown k e =
-    on (leb 15 k)
-    (λ t. on (eqb k 11) (λ i. rw i) (λ i. rw (i, t)))
-    (λ t.
-    let test : ℕ → Bool = λ i. cond (isOther (shapeOf i)) (isUnknown i) true in
-    let x : cond (isOther (shapeOf k)) (isUnknown k) true ≡ true = below 15 test refl k (leb-false 15 k t) in
-    rw e at x)
 
 only-unknown : (l : Shape) (c : Bool) (start n : ℕ) (b : List ℕ) (bit : Bool) (i j : ℕ) → valueOf l c start n b ≡ unknown bit i j → l ≡ shape.Unknown
 unfolding valueOf
@@ -439,12 +408,12 @@ module _ (k : ℕ) (low : k ≤ 32767) (bit : Bool) (m : List ℕ) (start n : �
       }
 
   number-kept : (x : ℕ) → ((i : ℕ) → getD m i 0 < 256) → number (numberAt (partAt m start n) 0) ≡ number x → n ≡ 2
-      → Kept (laidNumber k x) m n (partAt m start n)
+      → Kept (laidNumber k bit x) m n (partAt m start n)
   unfolding isNumber isSound bodySize bodyOf
   number-kept x small e g =
       let f : numberAt (partAt m start n) 0 ≡ x = cc in
       record {
-        is = sound-record (laidNumber k x) m (record { kind = low; first = omega arith; second = omega arith; body = refl });
+        is = sound-record (laidNumber k bit x) m (record { kind = low; first = omega arith; second = omega arith; body = refl });
         long = sym g;
         body = ap bytesOf (sym f)
             ∙ bytes-back (partAt m start n) (length-part m start n h ∙ g) (rw (part-at m start n 1 h (omega arith)) (small (start + 1)));
@@ -476,27 +445,26 @@ skipped-back k bit m c n b low e f never =
     }
 
 unknown-far : (k : ℕ) → isUnknown k ≡ true → (eqb k 0 || eqb k 8) ≡ false
-unfolding isUnknown
 unknown-far k e =
     on (eqb k 11)
     (λ t. rw (eqb-true k 11 t))
     (λ t.
-    let h : 15 ≤ k = leb-true 15 k (rw t at e) in
+    let h : 15 ≤ k = leb-true 15 k (rw t at (sym (unknown-numbers k) ∙ e)) in
     rw (ne-eqb k 0 (λ z. omega arith), ne-eqb k 8 (λ z. omega arith)))
 
 module _ (m : List ℕ) (c : Bool) (start n : ℕ) (h : start + n ≤ length m) (small : (i : ℕ) → getD m i 0 < 256) where
   unknown-back : (k : ℕ) (bit : Bool) (p : Part) → k ≤ 32767 → valueOf (shapeOf k) c start n (partAt m start n) ≡ unknown bit (p .start) (p .len)
       → Back (laid k bit shape.Unknown p none) m c n (partAt m start n)
-  unfolding valueOf bitOf
+  unfolding valueOf
   unknown-back k bit p low e =
       let s = only-unknown (shapeOf k) c start n (partAt m start n) bit (p .start) (p .len) e in
       let f : unknown c start n ≡ unknown bit (p .start) (p .len) = rw s at e in
       let u = shape-unknown k s in
-      kept-back (rw u (cc)) (unknown-far k u) (unknown-kept k low bit m start n h p (cc) (cc) u)
+      kept-back (cc (unknown-bit k c u)) (unknown-far k u) (unknown-kept k low bit m start n h p (cc) (cc) u)
 
   back : (x : NtsRecord) → layoutOf x .kind ≤ 32767 → Good (shapeOf (layoutOf x .kind)) n (partAt m start n)
       → valueOf (shapeOf (layoutOf x .kind)) c start n (partAt m start n) ≡ valueOfRecord x → Back (layoutOf x) m c n (partAt m start n)
-  unfolding shapeOf valueOf bitOf isUnknown
+  unfolding rowOf shapeOf bitOf valueOf
   back r.EndOfMessage low g e = skipped-back 0 true m c n (partAt m start n) low refl refl (λ i j. i refl)
   back (r.NextProtocol p) low g e = kept-back refl refl (numbers-kept 1 low true m start n h p e g)
   back (r.Error x) low g e = kept-back refl refl (number-kept 2 low true m start n h (x .0) small e g)
@@ -564,7 +532,8 @@ canonical-of (c ∷ d ∷ e ∷ f ∷ v) b h g =
     let p : e ≡ (e * 256 + f) / 256 = omega arith in
     let q : f ≡ (e * 256 + f) % 256 = omega arith in
     let k = kindOf (c * 256 + d) in
-    λ j. bytesOf (wordOf k (bitOf k (criticalOf (c * 256 + d)))) ++ cond (eqb k 0 || eqb k 8) (bytesOf 0) (p j ∷ q j ∷ b)
+    let w = bytesOf (wordOf k (bitOf k (criticalOf (c * 256 + d)))) in
+    ap (λ (t : Bool). w ++ cond t (bytesOf 0) (e ∷ f ∷ b)) (skipped-numbers k) ∙ (λ j. w ++ cond (eqb k 0 || eqb k 8) (bytesOf 0) (p j ∷ q j ∷ b))
 
 record-cut : (l : Layout) (m : List ℕ) → recordBytes l m ≡ bytesOf (wordOf (l .kind) (l .critical)) ++ (bytesOf (bodySize l) ++ bodyOf l m)
 unfolding recordBytes header

@@ -8,9 +8,10 @@ use native.Mathlib.Omega.{arith}
 use lib.ListN.{length, length-take, length-drop}
 use lib.Dec.{ltb, eqb}
 use borrow.Author.Tests.{ltb-false, eqb-true, eqb-false, le-ltb}
+use Rattle.layout.specs.Table.{shapeOf}
 use Rattle.layout.specs.declared.Shape.{Shape}
 use Rattle.layout.specs.declared.Shape.the-variants.{Skipped, Numbers, Number, Bytes, Name, Pairs, Halves, Unknown}
-use Rattle.record.specs.Record.{kind, size, there, shapeOf, short, uneven, notNumber, notHalves, notUtf8, firstOf, notName, faultOf, fault}
+use Rattle.record.specs.Record.{kind, size, there, short, uneven, notNumber, notHalves, notUtf8, firstOf, notName, faultOf, fault}
 
 -- ---- a body without fault is all there
 

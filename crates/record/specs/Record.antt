@@ -2,12 +2,13 @@
 -- record" (kinds 8 to 14 and unknown ones, and the faults). The place comes in only where an answer is made.
 use Prim.Native.Nat.{ℕ, _+_, _*_, _/_, _%_}
 use mathlib.Core.List.{List}
-use mathlib.Core.Bool.{Bool, cond, _||_}
+use mathlib.Core.Bool.{Bool, cond}
 use lib.ListN.{length, take, drop}
 use lib.Dec.{leb, ltb, eqb}
 use Rattle.wire.specs.Bytes.{numberAt}
 use Rattle.utf8.specs.Utf8.{wellFormed}
 use Rattle.nts.specs.Refusal.{Refused, nothing}
+use Rattle.layout.specs.Table.{shapeOf}
 use Rattle.layout.specs.declared.Shape.{Shape}
 use Rattle.layout.specs.declared.Shape.the-variants.{Skipped, Numbers, Number, Bytes, Name, Pairs, Halves, Unknown}
 
@@ -36,18 +37,6 @@ unfoldable pub there : List ℕ → List ℕ
 there s = take (size s) (drop 4 s)
 
 -- ---- the body
-
--- what a kind's body holds
-unfoldable pub shapeOf : ℕ → Shape
-shapeOf k =
-    cond (eqb k 0 || eqb k 8) Skipped
-    (cond (eqb k 1 || eqb k 4 || eqb k 9) Numbers
-    (cond (eqb k 2 || eqb k 3 || eqb k 7) Number
-    (cond (eqb k 5) Bytes
-    (cond (eqb k 6 || eqb k 13 || eqb k 14) Name
-    (cond (eqb k 10) Pairs
-    (cond (eqb k 12) Halves
-    Unknown))))))
 
 -- the fault of a body that is n bytes long by its header and of which m bytes are there; 0: none.
 -- 1 if it is not all there

@@ -1,14 +1,16 @@
 -- What a record holds, whichever message its parts lie in, and what a writer makes of a record that was read: 01, "The record".
 use Prim.Native.Nat.{ℕ}
 use mathlib.Core.List.{List, _++_}
-use mathlib.Core.Bool.{Bool, cond, not, _||_}
+use mathlib.Core.Bool.{Bool, false, cond}
 use lib.ListN.{drop}
-use lib.Dec.{eqb}
 use Rattle.wire.specs.Bytes.{partAt}
 use Rattle.wire.specs.Over.{bytesOf}
-use Rattle.layout.specs.Write.{isUnknown, wordOf}
+use Rattle.layout.specs.Table.{bitOf, isSkipped}
+use Rattle.layout.specs.Write.{wordOf}
 use Rattle.record.specs.Record.{kind, critical, Value, Seen}
 use Rattle.record.specs.Record as value
+use Rattle.record.specs.Told.{valueOfRecord}
+use Rattle.record.specs.declared.NtsRecord.{NtsRecord}
 
 pub data Held : Type 0 where
   nothing : Held
@@ -32,11 +34,18 @@ pub record Shown : Type 0 where
 unfoldable pub shown : Seen → List ℕ → Shown
 shown x m = record { kind = x .kind; held = heldIn m (x .value) }
 
--- the bit that is written: the table's, and of an unknown kind the bit that was read
-unfoldable pub bitOf : ℕ → Bool → Bool
-bitOf k bit = cond (isUnknown k) bit (not (eqb k 5 || eqb k 8 || eqb k 13 || eqb k 14))
+-- the bit that a record was given: an unknown record's own; any other has none, and false stands for it, since `bitOf` does not look at it
+abbrev pub givenBy : Value → Bool
+givenBy value.skipped = false
+givenBy (value.number n) = false
+givenBy (value.part a n) = false
+givenBy (value.halves a n b k) = false
+givenBy (value.unknown bit a n) = bit
+
+abbrev pub givenBit : NtsRecord → Bool
+givenBit x = givenBy (valueOfRecord x)
 
 -- the bytes of a record as they were read, made those that are written: the bit is the one that is written, and of kinds 0 and 8 the size is 0
 -- and the body is left out; no other byte changes
 unfoldable pub canonical : List ℕ → List ℕ
-canonical s = bytesOf (wordOf (kind s) (bitOf (kind s) (critical s))) ++ cond (eqb (kind s) 0 || eqb (kind s) 8) (bytesOf 0) (drop 2 s)
+canonical s = bytesOf (wordOf (kind s) (bitOf (kind s) (critical s))) ++ cond (isSkipped (kind s)) (bytesOf 0) (drop 2 s)

@@ -17,7 +17,8 @@ ghost use mathlib.Core.Path.{_≡_};
 ghost use Prim.Native.Nat.{_+_, _/_, _<_, _≤_, _^_};
 ghost use lib.ListN.{length, take, drop};
 ghost use Rattle.wire.specs.Bytes.{partAt};
-ghost use Rattle.record.specs.Record.{kindOf, criticalOf, shapeOf, short, uneven, notNumber, notHalves, notUtf8, firstOf, notName, faultOf, seenOf, readAt, lookAt};
+ghost use Rattle.layout.specs.Table.{shapeOf};
+ghost use Rattle.record.specs.Record.{kindOf, criticalOf, short, uneven, notNumber, notHalves, notUtf8, firstOf, notName, faultOf, seenOf, readAt, lookAt};
 ghost use Rattle.record.specs.Entry.{numberIn, pairIn};
 ghost use Rattle.record.specs.Told.{toldFault, toldRecord, toldParsed, toldLooked, toldNumber, toldProtocol, toldAlgorithm, toldPair};
 

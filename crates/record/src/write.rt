@@ -1,13 +1,16 @@
 // Writing one record: it is laid out by 01's table, and the layout is written.
 use super::NtsRecord;
+use super::shape_of;
 use layout::ByteCount;
 use layout::Layout;
 use layout::Part;
 use layout::Shape;
 ghost use mathlib.Core.Path.{_≡_};
+ghost use mathlib.Core.Bool.{false};
 ghost use lib.ListN.{length};
+ghost use Rattle.layout.specs.Table.{bitOf};
 ghost use Rattle.layout.specs.Write.{recordBytes, measured, written, toldCount, Wrote};
-ghost use Rattle.record.specs.Laid.{laid, laidNumber, layoutOf};
+ghost use Rattle.record.specs.Laid.{none, laid, layoutOf};
 
 impl NtsRecord {
     // Writes the record to the front of the output: how many bytes that is, exactly its length, and no byte after them
@@ -27,109 +30,99 @@ impl NtsRecord {
     }
 }
 
-// A record laid out by 01's table; the bit of an unknown record is as given.
+// A record laid out; of a known kind by 01's table, and of an unknown record as given.
 fn layout_of(item: NtsRecord) -> Layout
     ensures { λ r. ⌜ r ≡ layoutOf item ⌝ }
 {
     match item {
-        NtsRecord::EndOfMessage => with_parts(
-            NtsRecord::END_OF_MESSAGE,
-            true,
-            Shape::Skipped,
-            NONE,
-            NONE,
-        ),
-        NtsRecord::NextProtocol(p) => with_parts(
-            NtsRecord::NEXT_PROTOCOL,
-            true,
-            Shape::Numbers,
-            p,
-            NONE,
-        ),
+        NtsRecord::EndOfMessage => with_parts(NtsRecord::END_OF_MESSAGE, NONE, NONE),
+        NtsRecord::NextProtocol(p) => with_parts(NtsRecord::NEXT_PROTOCOL, p, NONE),
         NtsRecord::Error(c) => with_number(NtsRecord::ERROR, c.0),
         NtsRecord::Warning(c) => with_number(NtsRecord::WARNING, c.0),
-        NtsRecord::AeadAlgorithm(p) => with_parts(
-            NtsRecord::AEAD_ALGORITHM,
-            true,
-            Shape::Numbers,
-            p,
-            NONE,
-        ),
-        NtsRecord::NewCookie(p) => with_parts(NtsRecord::NEW_COOKIE, false, Shape::Bytes, p, NONE),
-        NtsRecord::Server(p) => with_parts(NtsRecord::SERVER, true, Shape::Name, p, NONE),
+        NtsRecord::AeadAlgorithm(p) => with_parts(NtsRecord::AEAD_ALGORITHM, p, NONE),
+        NtsRecord::NewCookie(p) => with_parts(NtsRecord::NEW_COOKIE, p, NONE),
+        NtsRecord::Server(p) => with_parts(NtsRecord::SERVER, p, NONE),
         NtsRecord::Port(n) => with_number(NtsRecord::PORT, n),
-        NtsRecord::KeepAlive => with_parts(
-            NtsRecord::KEEP_ALIVE,
-            false,
-            Shape::Skipped,
-            NONE,
-            NONE,
-        ),
+        NtsRecord::KeepAlive => with_parts(NtsRecord::KEEP_ALIVE, NONE, NONE),
         NtsRecord::SupportedNextProtocolList(p) => with_parts(
             NtsRecord::SUPPORTED_NEXT_PROTOCOL_LIST,
-            true,
-            Shape::Numbers,
             p,
             NONE,
         ),
         NtsRecord::SupportedAlgorithmList(p) => with_parts(
             NtsRecord::SUPPORTED_ALGORITHM_LIST,
-            true,
-            Shape::Pairs,
             p,
             NONE,
         ),
         NtsRecord::FixedKeyRequest { c2s, s2c } => with_parts(
             NtsRecord::FIXED_KEY_REQUEST,
-            true,
-            Shape::Halves,
             c2s,
             s2c,
         ),
-        NtsRecord::NtpServerDeny(p) => with_parts(
-            NtsRecord::NTP_SERVER_DENY,
-            false,
-            Shape::Name,
-            p,
-            NONE,
-        ),
-        NtsRecord::Authentication(p) => with_parts(
-            NtsRecord::AUTHENTICATION,
-            false,
-            Shape::Name,
-            p,
-            NONE,
-        ),
+        NtsRecord::NtpServerDeny(p) => with_parts(NtsRecord::NTP_SERVER_DENY, p, NONE),
+        NtsRecord::Authentication(p) => with_parts(NtsRecord::AUTHENTICATION, p, NONE),
         NtsRecord::Unknown {
             record_type,
             critical,
             data,
-        } => with_parts(record_type, critical, Shape::Unknown, data, NONE),
+        } => Layout {
+            kind: record_type,
+            critical,
+            shape: Shape::Unknown,
+            number: 0,
+            first: data,
+            second: NONE,
+        },
     }
 }
 
 const NONE: Part = Part { start: 0, len: 0 };
 
-fn with_parts(kind: u16, critical: bool, shape: Shape, first: Part, second: Part) -> Layout
-    ensures { λ r. ⌜ r ≡ laid kind critical shape first second ⌝ }
+// The column "Bit written" of 01's table; an unknown kind has none of its own.
+fn bit_of(kind: u16) -> bool
+    ensures { λ r. ⌜ r ≡ bitOf kind false ⌝ }
+{
+    match kind {
+        NtsRecord::END_OF_MESSAGE => true,
+        NtsRecord::NEXT_PROTOCOL => true,
+        NtsRecord::ERROR => true,
+        NtsRecord::WARNING => true,
+        NtsRecord::AEAD_ALGORITHM => true,
+        NtsRecord::NEW_COOKIE => false,
+        NtsRecord::SERVER => true,
+        NtsRecord::PORT => true,
+        NtsRecord::KEEP_ALIVE => false,
+        NtsRecord::SUPPORTED_NEXT_PROTOCOL_LIST => true,
+        NtsRecord::SUPPORTED_ALGORITHM_LIST => true,
+        NtsRecord::FIXED_KEY_REQUEST => true,
+        NtsRecord::NTP_SERVER_DENY => false,
+        NtsRecord::AUTHENTICATION => false,
+        _ => false,
+    }
+}
+
+// A record of a known kind whose body is one part after the other.
+fn with_parts(kind: u16, first: Part, second: Part) -> Layout
+    ensures { λ r. ⌜ r ≡ laid kind 0 first second ⌝ }
 {
     Layout {
         kind,
-        critical,
-        shape,
+        critical: bit_of(kind),
+        shape: shape_of(kind),
         number: 0,
         first,
         second,
     }
 }
 
+// One whose body is a number.
 fn with_number(kind: u16, number: u16) -> Layout
-    ensures { λ r. ⌜ r ≡ laidNumber kind number ⌝ }
+    ensures { λ r. ⌜ r ≡ laid kind number none none ⌝ }
 {
     Layout {
         kind,
-        critical: true,
-        shape: Shape::Number,
+        critical: bit_of(kind),
+        shape: shape_of(kind),
         number,
         first: NONE,
         second: NONE,

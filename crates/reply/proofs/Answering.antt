@@ -11,6 +11,7 @@ use lib.Dec.{ltb, eqb}
 use Rattle.wire.specs.Over.{over}
 use Rattle.wire.proofs.Over.{over-none}
 use Rattle.nts.specs.declared.NtsError.{NtsError}
+use Rattle.layout.specs.Table.{rowOf, shapeOf, isUnknown}
 use Rattle.walk.specs.Walk.{Sighting}
 use Rattle.walk.specs.Judge as judge
 use Rattle.walk.specs.Judge.{Verdict, no, yes, Under, withFirst, ofKind, bodyIn, placed}
@@ -102,7 +103,7 @@ module _ (m : List ℕ) (n : ℕ) (w : Walked) (c : List ℕ) (h : Walks rules (
 
     module _ (q : w .stop ≡ stop.End) (x : Answer) (e : toldAnswer x ≡ toldBy m (placed (w .place) (decide room (bodyIn m) (toldIn c)))) where
       says : toldAnswer x ≡ toldBy m (replyOf m n room)
-      unfolding replyOf known isNoted
+      unfolding replyOf known isUnknown shapeOf rowOf isNoted
       says =
           e
           ∙ told-ended rules reader table-reader m (asked room) w c h judging (toldBy m)
@@ -116,7 +117,7 @@ module _ (m : List ℕ) (n : ℕ) (w : Walked) (c : List ℕ) (h : Walks rules (
 
         -- they are put into the table from the bytes that the walk covered
         pub reads-accepted : (f : Filled) (t′ : List ℕ) → (count ≡ 0 → ⊥) → n < 65536 → Fills 5 count (take (w .place - 0) (drop 0 m)) t f t′ → Reads m n t x t′
-        unfolding act once known tableAfter replyOf
+        unfolding act once known isUnknown shapeOf rowOf tableAfter replyOf
         reads-accepted f t′ z l o =
             let end = walk-ended rules reader table-reader m (asked room) w c h q in
             let noted : ℕ → List Sighting = λ k. ofKind k (end .state) in

@@ -10,6 +10,7 @@ use lib.ListN.{length, getD}
 use lib.Dec.{ltb, eqb}
 use Rattle.wire.specs.Bytes.{numberAt}
 use Rattle.nts.specs.Refusal.{nothing}
+use Rattle.layout.specs.Table.{rowOf, shapeOf, isUnknown}
 use Rattle.walk.specs.Walk.{Sighting}
 use Rattle.walk.specs.Judge.{Verdict, withFirst, bodyIn, partOf, placed}
 use Rattle.walk.specs.Table.{known}
@@ -92,7 +93,7 @@ module _ (m : List ℕ) (at room : ℕ) where
         (cond (ltb room n) (refusedAt 7)
         (acceptedIn m c p a n))))))
         ≡ told (decide room (bodyIn m) (toldIn c))
-    unfolding decide acceptedIn known isNoted
+    unfolding decide acceptedIn known isUnknown shapeOf rowOf isNoted
     decided-is p a n ep ea en =
         let i1 = inside 1 (omega arith) refl refl in
         let i4 = inside 4 (omega arith) refl refl in

@@ -8,6 +8,7 @@ use lib.ListN.{length, take, drop, length-take}
 use Rattle.wire.specs.Over.{over}
 use Rattle.wire.proofs.Over.{over-none}
 use Rattle.nts.specs.declared.NtsError.{NtsError}
+use Rattle.layout.specs.Table.{rowOf, shapeOf, isUnknown}
 use Rattle.walk.specs.Walk.{Sighting, Outcome, stopped, ended, walk}
 use Rattle.walk.specs.Judge as judge
 use Rattle.walk.specs.Judge.{Under, Verdict, no, yes, ofKind, bodyIn, placed, finish, readBy}
@@ -120,7 +121,7 @@ module _ (m : List ℕ) (n : ℕ) (t : List ℕ) (x : Judged) (j : Judges m n (r
     reads-none e = record { says = j .says; left = no-names m (request m n (roomOf t)) t (sym counted ∙ e) }
 
     pub reads-names : n < 65536 → (count ≡ 0 → ⊥) → (r : Filled) (t′ : List ℕ) → Fills 13 count (take (x .place - 0) (drop 0 m)) t r t′ → Reads m n t (x .answer) t′
-    unfolding tableAfter act once known
+    unfolding tableAfter act once known isUnknown shapeOf rowOf
     reads-names l h r t′ f =
         let d = names-are m n (roomOf t) (λ e. h (counted ∙ e)) in
         let all : count ≡ length (ofKind 13 (d .state)) = counted ∙ denied-are m (request m n (roomOf t)) ∙ ap length (d .named) in

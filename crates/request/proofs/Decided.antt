@@ -13,6 +13,7 @@ use Rattle.wire.specs.Bytes.{numberAt}
 use Rattle.wire.proofs.Bytes.{number-drop, number-take}
 use Rattle.nts.specs.Refusal.{Beside, nothing, code}
 use Rattle.nts.specs.Algorithm.{describe, toldDescription}
+use Rattle.layout.specs.Table.{rowOf, shapeOf, isUnknown}
 use Rattle.layout.specs.declared.Part.{Part}
 use Rattle.nts.specs.declared.AlgorithmDescription.{AlgorithmDescription}
 use Rattle.nts.specs.declared.Description.{Description}
@@ -45,7 +46,7 @@ module _ (m : List ℕ) (at room : ℕ) (l l′ : ℕ → List Sighting) (h : (k
   alike k b n i = like-some (l k) (l′ k) (h k b n i)
 
   like-support : told m at (supportBy l) ≡ told m at (supportBy l′)
-  unfolding known isNoted
+  unfolding known isUnknown shapeOf rowOf isNoted
   like-support =
       like-first (told m at) (l 14) (l′ 14) (h 14 (omega arith) refl refl) _ _ _ _ refl
       (λ u. like-if (told m at) (some (l 12) || some (l 1) || some (l 4)) (some (l′ 12) || some (l′ 1) || some (l′ 4))
@@ -53,7 +54,7 @@ module _ (m : List ℕ) (at room : ℕ) (l l′ : ℕ → List Sighting) (h : (k
       (rw (alike 9 (omega arith) refl refl, alike 10 (omega arith) refl refl, alike 8 (omega arith) refl refl)))
 
   like-exchange : told m at (exchangeBy room l) ≡ told m at (exchangeBy room l′)
-  unfolding known isNoted
+  unfolding known isUnknown shapeOf rowOf isNoted
   like-exchange =
       let n = h 13 (omega arith) refl refl .long in
       like-first (told m at) (l 1) (l′ 1) (h 1 (omega arith) refl refl) _ _ _ _ refl
@@ -61,7 +62,7 @@ module _ (m : List ℕ) (at room : ℕ) (l l′ : ℕ → List Sighting) (h : (k
       (λ a. like-if (told m at) _ _ (ap (ltb room) n) _ _ _ _ refl (ap (keyExchangeIs (partOf p) (partOf a)) n)))
 
   like-keys : (x : Sighting) → told m at (keysBy (bodyIn m) l x) ≡ told m at (keysBy (bodyIn m) l′ x)
-  unfolding known isNoted
+  unfolding known isUnknown shapeOf rowOf isNoted
   like-keys x =
       like-first (told m at) (l 14) (l′ 14) (h 14 (omega arith) refl refl) _ _ _ _ refl
       (λ u. like-first (told m at) (l 1) (l′ 1) (h 1 (omega arith) refl refl) _ _ _ _ refl
@@ -69,7 +70,7 @@ module _ (m : List ℕ) (at room : ℕ) (l l′ : ℕ → List Sighting) (h : (k
       (λ a. ap (λ (k : Bool). told m at (fixedBy (bodyIn m) u x a p k)) (alike 8 (omega arith) refl refl))))
 
   pub decided-like : toldBy m (placed at (decide room (bodyIn m) l)) ≡ toldBy m (placed at (decide room (bodyIn m) l′))
-  unfolding decide known isNoted
+  unfolding decide known isUnknown shapeOf rowOf isNoted
   decided-like =
       like-if (told m at) (some (l 9) || some (l 10)) (some (l′ 9) || some (l′ 10)) (rw (alike 9 (omega arith) refl refl, alike 10 (omega arith) refl refl)) _ _ _ _
       like-support
@@ -162,7 +163,7 @@ module _ (c : List ℕ) (at : ℕ) (m : List ℕ) (fit : Fits rules (length m) c
 
   pub keys-by : told m at (keysBy (bodyIn m) (toldIn c) (firstIn c 12))
       ≡ cond (some (toldIn c 14)) (cond (isOne (entryIn c 1)) (cond (isOne (entryIn c 4)) (told m at (fixedIn (bodyIn m) c)) (refusedAt 4 nothing at)) (refusedAt 4 nothing at)) (refusedAt 4 nothing at)
-  unfolding isOne fixedBy known isNoted
+  unfolding isOne fixedBy known isUnknown shapeOf rowOf isNoted
   keys-by =
       rw (told-first c 14, told-first c 1, told-first c 4, told-some c 14, long 1 (omega arith) refl refl, long 4 (omega arith) refl refl)
       (go (eqb (entryIn c 14 .count) 0) (eqb (entryIn c 1 .count) 0) (eqb (entryIn c 4 .count) 0) (eqb (entryIn c 1 .len) 2) (eqb (entryIn c 4 .len) 2) _)
@@ -181,7 +182,7 @@ module _ (c : List ℕ) (at : ℕ) (m : List ℕ) (fit : Fits rules (length m) c
   -- a is the algorithm's number, and d what is known of it
   module _ (l1 : entryIn c 1 .len ≡ 2) (l4 : entryIn c 4 .len ≡ 2) (a : ℕ) (d : Description) (ea : a ≡ numberAt m (entryIn c 4 .start)) (ed : toldDescription d ≡ describe a) where
     keyed-by : told m at (fixedIn (bodyIn m) c) ≡ told m at (keyed (toldDescription d) a (entryIn c 12 .len / 2) (fixedKey (firstIn c 14) (firstIn c 12) (firstIn c 4) (firstIn c 1) (some (toldIn c 8))))
-    unfolding fixedBy known isNoted
+    unfolding fixedBy known isUnknown shapeOf rowOf isNoted
     keyed-by =
         let n : numberAt (bodyIn m (firstIn c 4)) 0 ≡ a = one-number m (firstIn c 4) l4 ∙ sym ea in
         rw (long 1 (omega arith) refl refl, long 4 (omega arith) refl refl, long 12 (omega arith) refl refl, eq-eqb (entryIn c 1 .len) 2 l1, eq-eqb (entryIn c 4 .len) 2 l4, n, ed)

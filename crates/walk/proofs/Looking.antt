@@ -2,17 +2,18 @@
 -- Assumes nothing.
 use mathlib.Core.Path.{_≡_, refl, sym, ap, _∙_, subst}
 use mathlib.Core.List.{List}
-use mathlib.Core.Bool.{Bool, true, false, cond, _&&_, _||_, and-false}
+use mathlib.Core.Bool.{Bool, true, false, not, cond, _||_}
 use Prim.Native.Nat.{ℕ, _+_, _<_, _≤_}
 use native.Mathlib.Omega.{arith}
 use lib.ListN.{getD, drop}
-use lib.Dec.{ltb, leb, eqb}
-use borrow.Author.Tests.{ltb-true, ltb-false, leb-false, le-leb, lt-leb, eqb-true}
+use lib.Dec.{ltb, eqb}
+use borrow.Author.Tests.{ltb-true, ltb-false, lt-leb, eqb-true}
 use Rattle.wire.specs.Bytes.{numberAt}
 use Rattle.wire.proofs.Bytes.{number-drop, number-take}
 use Rattle.nts.specs.Refusal.{nothing, code, numberOf, besideOf}
 use Rattle.nts.specs.declared.NtsError.{NtsError}
-use Rattle.record.specs.Record.{kind, critical, size, there, shapeOf, fault}
+use Rattle.layout.specs.Table.{rowOf, shapeOf}
+use Rattle.record.specs.Record.{kind, critical, size, there, fault}
 use Rattle.layout.specs.declared.Shape.the-variants.{Number}
 use Rattle.record.proofs.Inverse.{WasWhole}
 use Rattle.record.proofs.Whole.{number-length}
@@ -21,21 +22,21 @@ use Rattle.walk.specs.Table.{known}
 use Rattle.walk.specs.Rules.{tellAct}
 use Rattle.walk.specs.Code.{errorOf, Asked, asked}
 use Rattle.walk.specs.Shown.{slotOf}
+use Rattle.walk.proofs.Known.{known-numbers, far-unknown}
 
 -- ---- where a kind stands in the table
 
 pub slot-low : (k : ℕ) → k < 15 → k ≡ slotOf k
-unfolding slotOf known
-slot-low k h = go (leb k 10) (leb 12 k) refl refl
+unfolding slotOf
+slot-low k h = rw (known-numbers k, lt-leb 15 k h) (go (eqb k 11) refl)
   where
-    go : (a b : Bool) → leb k 10 ≡ a → leb 12 k ≡ b → k ≡ cond (a || (b && leb k 14)) k 11
-    go true b p q = refl
-    go false true p q = rw (le-leb k 14 (omega arith))
-    go false false p q = let u = leb-false k 10 p in let v = leb-false 12 k q in omega arith
+    go : (a : Bool) → eqb k 11 ≡ a → k ≡ cond (not (a || false)) k 11
+    go true e = eqb-true k 11 e
+    go false e = refl
 
 pub slot-high : (k : ℕ) → 15 ≤ k → 11 ≡ slotOf k
-unfolding slotOf known
-slot-high k h = simp (lt-leb k 10 (omega arith), lt-leb k 14 (omega arith), and-false)
+unfolding slotOf
+slot-high k h = rw (far-unknown k h)
 
 slot-small : (k : ℕ) → slotOf k < 15
 slot-small k = go (ltb k 15) refl
@@ -66,7 +67,7 @@ module _ (s : List ℕ) (at : ℕ) where
       number-take (drop 4 t) (size t) 0 (omega arith) ∙ number-drop t 4 0 ∙ number-drop s at 4
 
   told-there : fault t ≡ 0 → tellAct (kind t) (there t) ≡ refuses (numberOf (errorOf (kind t) (numberAt s (at + 4)))) (besideOf (errorOf (kind t) (numberAt s (at + 4))))
-  unfolding tellAct errorOf shapeOf
+  unfolding tellAct errorOf shapeOf rowOf
   told-there z = go (eqb (kind t) 2) (eqb (kind t) 3) refl refl
     where
       err : Bool → Bool → NtsError

@@ -11,7 +11,7 @@ use lib.Dec.{ltb, leb, eqb}
 use borrow.Author.Tests.{eqb-true, eqb-false, eq-eqb, ne-eqb, lt-ltb, leb-false, le-leb}
 use Rattle.nts.specs.Refusal.{nothing, code, numberOf, besideOf}
 use Rattle.nts.specs.declared.NtsError.{NtsError}
-use Rattle.record.specs.Record.{kind, critical, size, there, shapeOf, fault, Value, number, valueOf, seenOf}
+use Rattle.record.specs.Record.{kind, critical, size, there, fault, Value, number, valueOf, seenOf}
 use Rattle.walk.specs.Walk.{Act, ends, passes, notes, refuses, Sighting, stopped, ended, Step, stops, goes, has, meet, judge, step, faultIn, actIn}
 use Rattle.walk.specs.Judge.{ofKind, some}
 use Rattle.walk.specs.Table.{known}
@@ -20,6 +20,7 @@ use Rattle.walk.proofs.Noted.{sighting}
 use Rattle.walk.specs.Rules.{tellAct, ruleAct, isNoted, actAt, onceAt, readerOf}
 use Rattle.walk.specs.Code.{Asked, atMost, ruledOf, verdictOf}
 use Rattle.walk.specs.Shown.{slotOf}
+use Rattle.walk.proofs.Known.{eleven-unknown}
 use Rattle.walk.proofs.Looking.{Asks}
 use Rattle.walk.specs.declared.Verdict.{Verdict}
 use Rattle.walk.specs.declared.Verdict.the-variants.{On, End, Stop}
@@ -68,8 +69,7 @@ module _ (rules : List ℕ) (st : List Sighting) (at k n before : ℕ) (b : List
       simp (no 0 (omega arith), no 1 (omega arith), no 2 (omega arith), no 3 (omega arith), no 4 (omega arith), no 5 (omega arith))
 
 pub not-eleven : (k : ℕ) → known k ≡ true → eqb k 11 ≡ false
-unfolding known
-not-eleven k h = ne-eqb k 11 (λ e. true≢false (sym h ∙ ap known e))
+not-eleven k h = ne-eqb k 11 (λ e. true≢false (sym h ∙ ap known e ∙ eleven-unknown))
 
 verdict-known : (r : ℕ) (x : Asked) (k before n : ℕ) → x .slot ≡ k → eqb k 11 ≡ false → verdictOf r x before n ≡ ruledOf r before n (x .told)
 unfolding verdictOf

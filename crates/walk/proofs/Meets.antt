@@ -9,7 +9,8 @@ use lib.ListN.{length, drop, length-drop}
 use lib.Seq.{drop-drop}
 use borrow.Author.Tests.{eq-eqb, ne-eqb}
 use Rattle.nts.specs.Refusal.{nothing, Refused}
-use Rattle.record.specs.Record.{kind, critical, size, shapeOf, fault, whole, broken, lookAt}
+use Rattle.layout.specs.Table.{shapeOf}
+use Rattle.record.specs.Record.{kind, critical, size, fault, whole, broken, lookAt}
 use Rattle.record.proofs.Inverse.{whole-was, broken-was}
 use Rattle.record.proofs.Read.{look-inside}
 use Rattle.walk.specs.Walk.{Act, ends, passes, notes, refuses, Reader, Sighting, Outcome, stopped, ended, Step, stops, goes, has, meet, judge, step, faultIn, actIn, walk}

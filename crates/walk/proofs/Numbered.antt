@@ -1,9 +1,9 @@
--- A reader refuses with a number of 01's table, 1 to 15, where its acts and its decision do; and what stands beside that has sixteen bits, where the message is
--- bytes. A fault is 1 or 2, and a record that may stand once and stands there twice is 4.
+-- A reader refuses with no other numbers than 1, 2, 3, 4 and those of its acts and of its decision; and what stands beside a number has sixteen bits, where the
+-- message is bytes. A fault is 1 or 2, an unknown record with its bit set is 3, and a record that may stand once and stands there twice is 4.
 -- Assumes nothing.
 use mathlib.Core.Path.{_≡_, refl}
 use mathlib.Core.List.{List, [], _∷_}
-use mathlib.Core.Bool.{Bool, true, false, cond, _&&_}
+use mathlib.Core.Bool.{Bool, true, false, cond, _&&_, _||_}
 use Prim.Native.Nat.{ℕ, zero, suc, _+_, _*_, _/_, _%_, _<_, _≤_}
 use native.Mathlib.Omega.{arith}
 use borrow.Author.Tests.{leb-true, ltb-true, ltb-false}
@@ -14,12 +14,15 @@ use Rattle.wire.specs.Bytes.{numberAt}
 use Rattle.nts.specs.Refusal.{Beside, nothing, code, Refused}
 use Rattle.layout.specs.declared.Shape.{Shape}
 use Rattle.layout.specs.declared.Shape.the-variants.{Skipped, Numbers, Number, Bytes, Name, Pairs, Halves, Unknown}
-use Rattle.record.specs.Record.{kind, critical, size, there, short, uneven, notNumber, notHalves, notUtf8, firstOf, notName, faultOf}
+use Rattle.layout.specs.Table.{shapeOf}
+use Rattle.record.specs.Record.{kind, critical, size, there, short, uneven, notNumber, notHalves, notUtf8, firstOf, notName, faultOf, fault}
 use Rattle.walk.specs.Walk.{Act, ends, passes, notes, refuses, Reader, faultIn, actIn, Sighting, Outcome, stopped, ended, Step, stops, goes, has, meet, judge, step, walk}
 use Rattle.walk.specs.Judge.{Verdict, no, yes, Under, Judge, ofKind, withFirst, bodyIn, refused, placed, finish, readBy}
 use Rattle.walk.specs.Table.{known, actBy}
+use Rattle.walk.specs.Rules as rule
+use Rattle.walk.specs.Rules.{tellAct, ruleAct, actAt, readerOf}
 
--- ---- what is said of a refusal
+-- ---- bytes
 
 abbrev pub Small : List ℕ → Type 0
 Small s = (i : ℕ) → getD s i 0 < 256
@@ -27,36 +30,6 @@ Small s = (i : ℕ) → getD s i 0 < 256
 abbrev pub Sixteen : Beside → Type 0
 Sixteen nothing = Unit {0}
 Sixteen (code c) = c < 65536
-
--- the number n, with b beside it, told of the bytes s
-pub record Numbered (s : List ℕ) (n : ℕ) (b : Beside) : Type 0 where
-  pub least : 1 ≤ n
-  pub most : n ≤ 15
-  pub beside : Small s → Sixteen b
-
-pub bare : (s : List ℕ) (n : ℕ) → 1 ≤ n → n ≤ 15 → Numbered s n nothing
-bare s n i j = record { least = i; most = j; beside = λ h. tt }
-
--- .. as an act, a verdict, a step or a walk refuses
-abbrev pub ActBy : List ℕ → Act → Type 0
-ActBy s ends = Unit {0}
-ActBy s passes = Unit {0}
-ActBy s notes = Unit {0}
-ActBy s (refuses n b) = Numbered s n b
-
-abbrev pub VerdictBy : {Q : Type 0 → Type 0} {A : Type 0} → List ℕ → Verdict Q A → Type 0
-VerdictBy s (no n b) = Numbered s n b
-VerdictBy s (yes q) = Unit {0}
-
-abbrev WalkBy : List ℕ → Outcome → Type 0
-WalkBy s (stopped r) = Numbered s (r .number) (r .beside)
-WalkBy s (ended at next st) = Unit {0}
-
-abbrev StepBy : List ℕ → Step → Type 0
-StepBy s (stops o) = WalkBy s o
-StepBy s (goes st) = Unit {0}
-
--- ---- bytes
 
 pub small-part : (s : List ℕ) (n at : ℕ) → Small s → Small (take n (drop at s))
 small-part s n at h i = go (ltb i n) refl
@@ -70,26 +43,6 @@ small-part s n at h i = go (ltb i n) refl
 pub number-small : (s : List ℕ) → Small s → numberAt s 0 < 65536
 unfolding numberAt
 number-small s h = omega (arith, h 0, h (0 + 1))
-
--- ---- by tests
-
-pub act-if : (s : List ℕ) (t : Bool) (a b : Act) → ActBy s a → ActBy s b → ActBy s (cond t a b)
-act-if s true a b p q = p
-act-if s false a b p q = q
-
--- a table over the known kinds, and the rule for the unknown ones
-pub act-by : (f : ℕ → List ℕ → Act) → ((k : ℕ) (b : List ℕ) → ActBy b (f k b)) → (k : ℕ) (c : Bool) (b : List ℕ) → ActBy b (actBy f k c b)
-unfolding actBy
-act-by f h k c b = act-if b (known k) _ _ (act-if b (eqb k 0) ends _ tt (h k b)) (act-if b c _ passes (bare b 3 (omega arith) (omega arith)) tt)
-
-module _ {Q : Type 0 → Type 0} {A : Type 0} (s : List ℕ) where
-  pub verdict-if : (t : Bool) (v w : Verdict Q A) → VerdictBy s v → VerdictBy s w → VerdictBy s (cond t v w)
-  verdict-if true v w p q = p
-  verdict-if false v w p q = q
-
-  pub verdict-first : (l : List A) (v : Verdict Q A) (f : A → Verdict Q A) → VerdictBy s v → ((x : A) → VerdictBy s (f x)) → VerdictBy s (withFirst l v f)
-  verdict-first [] v f p q = p
-  verdict-first (x ∷ l) v f p q = q x
 
 -- ---- a fault is at most 2
 
@@ -124,56 +77,144 @@ fault-few Pairs n b = uneven-few 4 n (length b)
 fault-few Halves n b = few (ltb (length b) (2 * (n / 2))) 1 (cond (eqb (n % 2) 0) 0 2) (omega arith) (few (eqb (n % 2) 0) 0 2 (omega arith) (omega arith))
 fault-few Unknown n b = short-few n (length b)
 
--- ---- a walk
+pub record-few : (s : List ℕ) → fault s ≤ 2
+unfolding fault
+record-few s = few (ltb (length s) 4) 1 _ (omega arith) (fault-few (shapeOf (kind s)) (size s) (there s))
 
-later : (b : ℕ) (s : List ℕ) (o : Outcome) → WalkBy s o → WalkBy (b ∷ s) o
-later b s (stopped r) h = record { least = h .least; most = h .most; beside = λ z. h .beside (λ i. z (suc i)) }
-later b s (ended at next st) h = tt
+-- ---- what is said of a refusal
 
-module _ (R : Reader) (acts : (k : ℕ) (c : Bool) (b : List ℕ) → ActBy b (R .act k c b)) where
-  step-by : (st : List Sighting) (at : ℕ) (s : List ℕ) → StepBy s (step R st at s)
-  unfolding step judge meet faultIn actIn there
-  step-by st at s = by-fault (faultIn R s) (few (ltb (length s) 4) 1 _ (omega arith) (fault-few (R .shape (kind s)) (size s) (there s)))
-    where
-      noted : (t : Bool) (l : List Sighting) → StepBy s (cond t (stops (stopped (record { number = 4; beside = nothing; place = at }))) (goes l))
-      noted true l = bare s 4 (omega arith) (omega arith)
-      noted false l = tt
+-- the number n, with b beside it, told of the bytes s: P says of a number that it may be told
+pub record Numbered (P : ℕ → Type 0) (s : List ℕ) (n : ℕ) (b : Beside) : Type 0 where
+  pub one : P n
+  pub beside : Small s → Sixteen b
 
-      by-act : (a : Act) → ActBy (there s) a → StepBy s (meet R st at (kind s) (size s) a)
-      by-act ends h = tt
-      by-act passes h = tt
-      by-act notes h = noted (R .once (kind s) && has (kind s) st) _
-      by-act (refuses n b) h = record { least = h .least; most = h .most; beside = λ z. h .beside (small-part s (size s) 4 z) }
+module _ (P : ℕ → Type 0) where
+  pub bare : (s : List ℕ) (n : ℕ) → P n → Numbered P s n nothing
+  bare s n p = record { one = p; beside = λ h. tt }
 
-      by-fault : (f : ℕ) → f ≤ 2 → StepBy s (judge R st at s f)
-      by-fault zero l = by-act (actIn R s) (acts (kind s) (critical s) (there s))
-      by-fault (suc f) l = bare s (suc f) (omega arith) (omega arith)
+  -- .. as an act, a verdict, a step or a walk refuses
+  abbrev pub ActBy : List ℕ → Act → Type 0
+  ActBy s ends = Unit {0}
+  ActBy s passes = Unit {0}
+  ActBy s notes = Unit {0}
+  ActBy s (refuses n b) = Numbered P s n b
 
-  walk-by : (st : List Sighting) (at k : ℕ) (s : List ℕ) → WalkBy s (walk R st at k s)
-  unfolding walk
-  walk-by st at k [] = bare [] 1 (omega arith) (omega arith)
-  walk-by st at (suc k) (b ∷ s) = later b s (walk R st at k s) (walk-by st at k s)
-  walk-by st at zero (b ∷ s) =
-      go (step R st at (b ∷ s)) (step-by st at (b ∷ s)) (λ st′. walk-by st′ (at + (4 + size (b ∷ s))) (3 + size (b ∷ s)) s)
-    where
-      go : (x : Step) → StepBy (b ∷ s) x → ((st′ : List Sighting) → WalkBy s (walk R st′ (at + (4 + size (b ∷ s))) (3 + size (b ∷ s)) s))
-          → WalkBy (b ∷ s) (elim x as (λ (y : Step). Outcome) [ stops o ↦ o | goes st₁ ↦ walk R st₁ (at + (4 + size (b ∷ s))) (3 + size (b ∷ s)) s ])
-      go (stops o) h ih = h
-      go (goes st′) h ih = later b s (walk R st′ (at + (4 + size (b ∷ s))) (3 + size (b ∷ s)) s) (ih st′)
+  abbrev pub VerdictBy : {Q : Type 0 → Type 0} {A : Type 0} → List ℕ → Verdict Q A → Type 0
+  VerdictBy s (no n b) = Numbered P s n b
+  VerdictBy s (yes q) = Unit {0}
 
-  -- ---- a reader
+  abbrev WalkBy : List ℕ → Outcome → Type 0
+  WalkBy s (stopped r) = Numbered P s (r .number) (r .beside)
+  WalkBy s (ended at next st) = Unit {0}
 
-  pub refused-numbered : (D : Judge) (m : List ℕ) (u : Under) → ((l : ℕ → List Sighting) → VerdictBy m (D .decide u (bodyIn m) l))
-      → (r : Refused) → readBy R D m u ≡ refused r → Numbered m (r .number) (r .beside)
-  unfolding readBy finish
-  refused-numbered D m u decides r e = go (walk R [] 0 0 (take (u .limit) m)) (walk-by [] 0 0 (take (u .limit) m)) e
-    where
-      decided : (at : ℕ) (v : Verdict (D .Q) Sighting) → VerdictBy m v → placed at v ≡ refused r → Numbered m (r .number) (r .beside)
-      decided at (no n b) h q = let z : r ≡ record { number = n; beside = b; place = at } = cc in rw z h
-      decided at (yes a) h q = let z : _≡_ {A = ℕ} 0 1 = cc in absurd (omega arith)
+  abbrev StepBy : List ℕ → Step → Type 0
+  StepBy s (stops o) = WalkBy s o
+  StepBy s (goes st) = Unit {0}
 
-      go : (o : Outcome) → WalkBy (take (u .limit) m) o → finish D u m o ≡ refused r → Numbered m (r .number) (r .beside)
-      go (stopped x) h q =
-          let z : r ≡ x = cc in
-          rw z (record { least = h .least; most = h .most; beside = λ s. h .beside (small-part m (u .limit) 0 s) })
-      go (ended at next st) h q = decided at (D .decide u (bodyIn m) (λ k. ofKind k st)) (decides (λ k. ofKind k st)) q
+  -- ---- by tests
+
+  pub act-if : (s : List ℕ) (t : Bool) (a b : Act) → ActBy s a → ActBy s b → ActBy s (cond t a b)
+  act-if s true a b p q = p
+  act-if s false a b p q = q
+
+  -- a table over the known kinds, and the rule for the unknown ones
+  pub act-by : P 3 → (f : ℕ → List ℕ → Act) → ((k : ℕ) (b : List ℕ) → ActBy b (f k b)) → (k : ℕ) (c : Bool) (b : List ℕ) → ActBy b (actBy f k c b)
+  unfolding actBy
+  act-by three f h k c b = act-if b (known k) _ _ (act-if b (eqb k 0) ends _ tt (h k b)) (act-if b c _ passes (bare b 3 three) tt)
+
+  module _ {Q : Type 0 → Type 0} {A : Type 0} (s : List ℕ) where
+    pub verdict-if : (t : Bool) (v w : Verdict Q A) → VerdictBy s v → VerdictBy s w → VerdictBy s (cond t v w)
+    verdict-if true v w p q = p
+    verdict-if false v w p q = q
+
+    pub verdict-first : (l : List A) (v : Verdict Q A) (f : A → Verdict Q A) → VerdictBy s v → ((x : A) → VerdictBy s (f x)) → VerdictBy s (withFirst l v f)
+    verdict-first [] v f p q = p
+    verdict-first (x ∷ l) v f p q = q x
+
+  -- ---- a walk
+
+  later : (b : ℕ) (s : List ℕ) (o : Outcome) → WalkBy s o → WalkBy (b ∷ s) o
+  later b s (stopped r) h = record { one = h .one; beside = λ z. h .beside (λ i. z (suc i)) }
+  later b s (ended at next st) h = tt
+
+  module _ (p : P 1 × P 2 × P 4) (R : Reader) (acts : (k : ℕ) (c : Bool) (b : List ℕ) → ActBy b (R .act k c b)) where
+    step-by : (st : List Sighting) (at : ℕ) (s : List ℕ) → StepBy s (step R st at s)
+    unfolding step judge meet faultIn actIn there
+    step-by st at s = by-fault (faultIn R s) (few (ltb (length s) 4) 1 _ (omega arith) (fault-few (R .shape (kind s)) (size s) (there s)))
+      where
+        noted : (t : Bool) (l : List Sighting) → StepBy s (cond t (stops (stopped (record { number = 4; beside = nothing; place = at }))) (goes l))
+        noted true l = bare s 4 (p .2)
+        noted false l = tt
+
+        by-act : (a : Act) → ActBy (there s) a → StepBy s (meet R st at (kind s) (size s) a)
+        by-act ends h = tt
+        by-act passes h = tt
+        by-act notes h = noted (R .once (kind s) && has (kind s) st) _
+        by-act (refuses n b) h = record { one = h .one; beside = λ z. h .beside (small-part s (size s) 4 z) }
+
+        by-fault : (f : ℕ) → f ≤ 2 → StepBy s (judge R st at s f)
+        by-fault zero l = by-act (actIn R s) (acts (kind s) (critical s) (there s))
+        by-fault (suc zero) l = bare s 1 (p .0)
+        by-fault (suc (suc zero)) l = bare s 2 (p .1)
+        by-fault (suc (suc (suc f))) l = absurd (omega arith)
+
+    walk-by : (st : List Sighting) (at k : ℕ) (s : List ℕ) → WalkBy s (walk R st at k s)
+    unfolding walk
+    walk-by st at k [] = bare [] 1 (p .0)
+    walk-by st at (suc k) (b ∷ s) = later b s (walk R st at k s) (walk-by st at k s)
+    walk-by st at zero (b ∷ s) =
+        go (step R st at (b ∷ s)) (step-by st at (b ∷ s)) (λ st′. walk-by st′ (at + (4 + size (b ∷ s))) (3 + size (b ∷ s)) s)
+      where
+        go : (x : Step) → StepBy (b ∷ s) x → ((st′ : List Sighting) → WalkBy s (walk R st′ (at + (4 + size (b ∷ s))) (3 + size (b ∷ s)) s))
+            → WalkBy (b ∷ s) (elim x as (λ (y : Step). Outcome) [ stops o ↦ o | goes st₁ ↦ walk R st₁ (at + (4 + size (b ∷ s))) (3 + size (b ∷ s)) s ])
+        go (stops o) h ih = h
+        go (goes st′) h ih = later b s (walk R st′ (at + (4 + size (b ∷ s))) (3 + size (b ∷ s)) s) (ih st′)
+
+    pub stopped-numbered : (s : List ℕ) (r : Refused) → walk R [] 0 0 s ≡ stopped r → Numbered P s (r .number) (r .beside)
+    stopped-numbered s r e = go (walk R [] 0 0 s) (walk-by [] 0 0 s) e
+      where
+        go : (o : Outcome) → WalkBy s o → o ≡ stopped r → Numbered P s (r .number) (r .beside)
+        go (stopped x) h q = let z : r ≡ x = cc in rw z h
+        go (ended at next st) h q = let z : _≡_ {A = ℕ} 0 1 = cc in absurd (omega arith)
+
+    -- ---- a reader
+
+    pub refused-numbered : (D : Judge) (m : List ℕ) (u : Under) → ((l : ℕ → List Sighting) → VerdictBy m (D .decide u (bodyIn m) l))
+        → (r : Refused) → readBy R D m u ≡ refused r → Numbered P m (r .number) (r .beside)
+    unfolding readBy finish
+    refused-numbered D m u decides r e = go (walk R [] 0 0 (take (u .limit) m)) (walk-by [] 0 0 (take (u .limit) m)) e
+      where
+        decided : (at : ℕ) (v : Verdict (D .Q) Sighting) → VerdictBy m v → placed at v ≡ refused r → Numbered P m (r .number) (r .beside)
+        decided at (no n b) h q = let z : r ≡ record { number = n; beside = b; place = at } = cc in rw z h
+        decided at (yes a) h q = let z : _≡_ {A = ℕ} 0 1 = cc in absurd (omega arith)
+
+        go : (o : Outcome) → WalkBy (take (u .limit) m) o → finish D u m o ≡ refused r → Numbered P m (r .number) (r .beside)
+        go (stopped x) h q =
+            let z : r ≡ x = cc in
+            rw z (record { one = h .one; beside = λ s. h .beside (small-part m (u .limit) 0 s) })
+        go (ended at next st) h q = decided at (D .decide u (bodyIn m) (λ k. ofKind k st)) (decides (λ k. ofKind k st)) q
+
+  -- ---- the walk by a table
+
+  module _ (p : P 1 × P 2 × P 3 × P 4 × P 11 × P 12) (rules : List ℕ) where
+    tell-by : (k : ℕ) (b : List ℕ) → ActBy b (tellAct k b)
+    unfolding tellAct
+    tell-by k b =
+        act-if b (eqb k 2) _ _ (record { one = p .4; beside = number-small b })
+        (act-if b (eqb k 3) _ _ (record { one = p .5; beside = number-small b }) (bare b 4 (p .3)))
+
+    rule-by : (r k : ℕ) (b : List ℕ) → ActBy b (ruleAct r k b)
+    unfolding ruleAct
+    rule-by r k b =
+        act-if b (eqb r rule.ending) ends _ tt
+        (act-if b (eqb r rule.passed) passes _ tt
+        (act-if b (eqb r rule.noted || eqb r rule.once) notes _ tt
+        (act-if b (eqb r rule.single) _ _ (act-if b (ltb 2 (length b)) _ notes (bare b 4 (p .3)) tt)
+        (act-if b (eqb r rule.told) _ _ (tell-by k b) (bare b 4 (p .3))))))
+
+    rules-by : (k : ℕ) (c : Bool) (b : List ℕ) → ActBy b (actAt rules k c b)
+    unfolding actAt
+    rules-by k c b = act-if b (known k) _ _ (rule-by (getD rules k 0) k b) (act-if b c _ passes (bare b 3 (p .2)) tt)
+
+    pub walk-numbered : (s : List ℕ) (r : Refused) → walk (readerOf rules) [] 0 0 s ≡ stopped r → Numbered P s (r .number) (r .beside)
+    walk-numbered = stopped-numbered (p .0, p .1, p .3) (readerOf rules) rules-by

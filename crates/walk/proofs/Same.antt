@@ -69,8 +69,8 @@ walked-apart x y e = go (x .stop) (y .stop) refl refl e
 
 -- ---- the functions
 
-pub cut-at-same : (κs : _) (a : _) (r r′ : _) (e e′ : _) → cut-at.Learnt κs a r e → cut-at.Learnt κs a r′ e′ → now r ≡ now r′
-cut-at-same κs a r r′ e e′ p q = p ∙ sym q
+pub cut-at-same : (κs : _) (a : _) (r r′ : _) (e e′ : _) → cut-at.Learnt κs a r e → cut-at.Learnt κs a r′ e′ → (now r ≡ now r′) × (r .ptr ≡ r′ .ptr)
+cut-at-same κs a r r′ e e′ p q = (p .holds ∙ sym (q .holds), p .place ∙ sym (q .place))
 
 pub walk-same : (κs : _) (a : _) (r r′ : _) (e e′ : _) → walk.Learnt κs a r e → walk.Learnt κs a r′ e′ → (r ≡ r′) × (now (e .1 .1 .1 .0) ≡ now (e′ .1 .1 .1 .0))
 walk-same κs a r r′ e e′ p q = (walked-apart r r′ (p .says ∙ sym (q .says)), stands-apart _ _ _ (p .met) (q .met))

@@ -20,6 +20,7 @@ use Rattle.walk.specs.Found.{seenOf, entryIn, Stands, Walks}
 use Rattle.walk.specs.Code.{putIn, moreIn}
 use Rattle.walk.specs.declared.Seen.{Seen}
 use Rattle.walk.specs.declared.Walked.{Walked}
+use Rattle.walk.proofs.Known.{eleven-unknown}
 use Rattle.walk.proofs.Meeting.{moreOf}
 
 -- ---- what is noted
@@ -33,8 +34,7 @@ unfolding Kept
 kept-start rules k kn nt = refl
 
 eleven : (k : ℕ) → known k ≡ true → eqb 11 k ≡ false
-unfolding known
-eleven k h = ne-eqb 11 k (λ e. true≢false (sym h ∙ ap known (sym e)))
+eleven k h = ne-eqb 11 k (λ e. true≢false (sym h ∙ ap known (sym e) ∙ eleven-unknown))
 
 pub kept-more : (rules : List ℕ) (st sh : List Sighting) (at : ℕ) (t : List ℕ) → Kept rules st sh → Kept rules (st ++ moreOf rules at (kind t) (size t)) (sh ++ (counted (markAt at t) ∷ []))
 unfolding Kept moreOf slotOf

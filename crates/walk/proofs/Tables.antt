@@ -2,17 +2,17 @@
 -- Assumes nothing.
 use mathlib.Core.Path.{_≡_, refl}
 use mathlib.Core.List.{List}
-use mathlib.Core.Bool.{Bool, true, false, _&&_, _||_, and-false}
+use mathlib.Core.Bool.{Bool, true, false}
 use mathlib.Core.Logic.{⊎-elim}
 use Prim.Native.Nat.{ℕ, zero, suc, _<_, _≤_}
 use native.Mathlib.Nat.{not-suc-le-zero, le-of-suc-le-suc, eq-or-lt-of-le}
-use native.Mathlib.Omega.{arith}
-use lib.Dec.{ltb, leb}
-use borrow.Author.Tests.{ltb-true, ltb-false, lt-leb}
-use Rattle.record.specs.Record.{shapeOf}
+use lib.Dec.{ltb}
+use borrow.Author.Tests.{ltb-true, ltb-false}
+use Rattle.layout.specs.Table.{shapeOf}
 use Rattle.walk.specs.Walk.{Act, Reader}
-use Rattle.walk.specs.Table.{known, actBy, tableReader}
+use Rattle.walk.specs.Table.{actBy, tableReader}
 use Rattle.walk.specs.Rules.{actAt, onceAt, readerOf}
+use Rattle.walk.proofs.Known.{far-unknown}
 
 -- what holds of each kind below n
 unfoldable pub Every : ℕ → (ℕ → Type 0) → Type 0
@@ -24,10 +24,6 @@ unfolding Every
 each zero P a k h = absurd (not-suc-le-zero h)
 each (suc n) P a k h = ⊎-elim (λ e. rw e (a .0)) (λ l. each n P (a .1) k l) (eq-or-lt-of-le (le-of-suc-le-suc h))
 
-far : (k : ℕ) → 15 ≤ k → known k ≡ false
-unfolding known
-far k h = simp (lt-leb k 10 (omega arith), lt-leb k 14 (omega arith), and-false)
-
 module _ (rules : List ℕ) (act : ℕ → List ℕ → Act) (once : ℕ → Bool)
     (acts : Every 15 (λ k. (bit : Bool) (b : List ℕ) → actAt rules k bit b ≡ actBy act k bit b))
     (onces : Every 15 (λ k. onceAt rules k ≡ once k))
@@ -38,7 +34,7 @@ module _ (rules : List ℕ) (act : ℕ → List ℕ → Act) (once : ℕ → Boo
     where
       go : (t : Bool) → ltb k 15 ≡ t → actAt rules k bit b ≡ actBy act k bit b
       go true h = each 15 _ acts k (ltb-true k 15 h) bit b
-      go false h = rw (far k (ltb-false k 15 h))
+      go false h = rw (far-unknown k (ltb-false k 15 h))
 
   once-same : (k : ℕ) → onceAt rules k ≡ once k
   unfolding onceAt
@@ -46,7 +42,7 @@ module _ (rules : List ℕ) (act : ℕ → List ℕ → Act) (once : ℕ → Boo
     where
       go : (t : Bool) → ltb k 15 ≡ t → onceAt rules k ≡ once k
       go true h = each 15 _ onces k (ltb-true k 15 h)
-      go false h = rw (far k (ltb-false k 15 h), none k (ltb-false k 15 h))
+      go false h = rw (far-unknown k (ltb-false k 15 h), none k (ltb-false k 15 h))
 
   pub table-is : readerOf rules ≡ tableReader act once
   table-is = λ i. record { shape = shapeOf; act = λ k bit b. act-same k bit b i; once = λ k. once-same k i }

@@ -6,7 +6,7 @@ use mathlib.Core.List.{List, [], _∷_, _++_}
 use mathlib.Core.Bool.{cond}
 use lib.ListN.{length}
 use lib.Dec.{eqb}
-use Rattle.record.specs.Record.{kind, size}
+use Rattle.record.specs.Record.{kind, size, there}
 use Rattle.walk.specs.Walk.{Reader, Sighting}
 use Rattle.walk.specs.Judge.{Under, Judge, bodyIn, accepted, readBy}
 
@@ -27,10 +27,10 @@ abbrev pub Each : (List ℕ → Type 0) → List (List ℕ) → Type 0
 Each P [] = Unit {0}
 Each P (c ∷ cs) = P c × Each P cs
 
--- the records of a kind, in their order
-abbrev pub recordsOf : ℕ → List (List ℕ) → List (List ℕ)
-recordsOf k [] = []
-recordsOf k (c ∷ cs) = cond (eqb (kind c) k) (c ∷ recordsOf k cs) (recordsOf k cs)
+-- the bodies of the records of a kind, in their order
+abbrev pub bodies : ℕ → List (List ℕ) → List (List ℕ)
+bodies k [] = []
+bodies k (c ∷ cs) = cond (eqb (kind c) k) (there c ∷ bodies k cs) (bodies k cs)
 
 -- ---- a message of them
 

@@ -7,7 +7,7 @@ use lib.ListN.{length, getD}
 use lib.Dec.{ltb, eqb}
 use Rattle.wire.specs.Bytes.{numberAt}
 use Rattle.nts.specs.Refusal.{nothing, code}
-use Rattle.record.specs.Record.{shapeOf}
+use Rattle.layout.specs.Table.{shapeOf}
 use Rattle.walk.specs.Walk.{Act, ends, passes, notes, refuses, Reader}
 use Rattle.walk.specs.Table.{known}
 

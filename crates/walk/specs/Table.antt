@@ -3,15 +3,15 @@
 -- passed over.
 use Prim.Native.Nat.{ℕ}
 use mathlib.Core.List.{List}
-use mathlib.Core.Bool.{Bool, cond, _&&_, _||_}
-use lib.Dec.{leb, eqb}
+use mathlib.Core.Bool.{Bool, cond, not}
+use lib.Dec.{eqb}
 use Rattle.nts.specs.Refusal.{nothing}
-use Rattle.record.specs.Record.{shapeOf}
+use Rattle.layout.specs.Table.{shapeOf, isUnknown}
 use Rattle.walk.specs.Walk.{Act, ends, passes, refuses, Reader}
 
 -- 0 to 10 and 12 to 14; unknown are 11, and 15 to 32,767
 unfoldable pub known : ℕ → Bool
-known k = leb k 10 || (leb 12 k && leb k 14)
+known k = not (isUnknown k)
 
 -- what a reader does that has the table f for what follows: kind 0 ends, any other known kind as its table says by kind and body
 unfoldable pub actBy : (ℕ → List ℕ → Act) → ℕ → Bool → List ℕ → Act

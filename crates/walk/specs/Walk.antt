@@ -1,9 +1,11 @@
 -- The walk over a message, once for every reader: 01, "From records to a request" and "Choosing and replying": read through the first end
 -- record; what follows is not looked at; the first fault in record order is the one told, at the place of its record.
 use Prim.Native.Nat.{ℕ, zero, suc, _+_}
+use mathlib.Core.Path.{_≡_}
 use mathlib.Core.List.{List, [], _∷_, _++_}
 use mathlib.Core.Bool.{Bool, true, false, cond, _&&_, _||_}
-use lib.ListN.{length}
+use denote.Ref.{RefT, now}
+use lib.ListN.{length, take}
 use lib.Dec.{ltb, eqb}
 use Rattle.nts.specs.Refusal.{Beside, nothing, Refused}
 use Rattle.layout.specs.declared.Shape.{Shape}
@@ -81,3 +83,10 @@ walk R st at k [] = stopped (record { number = 1; beside = nothing; place = at }
 walk R st at (suc k) (b ∷ s) = walk R st at k s
 walk R st at zero (b ∷ s) =
     elim (step R st at (b ∷ s)) [ stops o ↦ o | goes st′ ↦ walk R st′ (at + (4 + size (b ∷ s))) (3 + size (b ∷ s)) s ]
+
+-- ---- the message that it is over: 01, "Which part of the crate": as if it were cut after so many bytes
+
+-- r refers to what a limit of n bytes leaves of the message that m refers to, and points to its front
+pub record CutOf (m : RefT (List ℕ)) (n : ℕ) (r : RefT (List ℕ)) : Type 0 where
+  pub holds : now r ≡ take n (now m)
+  pub place : r .ptr ≡ m .ptr

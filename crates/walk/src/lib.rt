@@ -10,6 +10,7 @@ ghost use mathlib.Core.Path.{_≡_};
 ghost use Prim.Native.Nat.{_+_, _<_, _≤_, _^_};
 ghost use lib.ListN.{length, take};
 ghost use Rattle.wire.specs.Bytes.{numberAt};
+ghost use Rattle.walk.specs.Walk.{CutOf};
 ghost use Rattle.walk.specs.Judge.{some};
 ghost use Rattle.walk.specs.Shown.{slotOf};
 ghost use Rattle.walk.specs.Found.{entryIn, toldIn, Walks};
@@ -84,7 +85,7 @@ struct Stepped {
 
 // The bytes of a message that a limit leaves.
 pub fn cut_at(message: &[u8], limit: u16) -> &[u8]
-    ensures { λ r. ⌜ now r ≡ take limit (now (message .entry)) ⌝ }
+    ensures { λ r. ⌜ CutOf (message .entry) limit r ⌝ }
 {
     let n = limit as usize;
     if n < message.len() {

@@ -1,14 +1,15 @@
 -- Laws of numbers and parts of a list.
 -- Assumes nothing.
-use mathlib.Core.Path.{_≡_, ap}
+use mathlib.Core.Path.{_≡_, refl, sym, ap, _∙_}
 use mathlib.Core.List.{List, [], _∷_, _++_}
 use Prim.Native.Nat.{ℕ, _+_, _-_, _*_, _/_, _%_, _<_, _≤_}
-use native.Mathlib.Nat.{add-sub-cancel-left, sub-self, div-add-mod'}
+use native.Mathlib.Nat.{add-sub-cancel-left, div-add-mod'}
 use native.Mathlib.Omega.{arith}
 use borrow.Author.Tests.{le-leb, lt-leb}
+use denote.Ref.{RefT, now}
 use lib.ListN.{length, getD, take, drop, length-append, length-drop, List·getD-eq-default}
 use lib.Seq.{getD-take, getD-drop, length-take-le, take-add, take-at, drop-at, drop-drop}
-use Rattle.wire.specs.Bytes.{numberAt, partAt}
+use Rattle.wire.specs.Bytes.{numberAt, partAt, startAt, PartOf}
 use Rattle.wire.specs.Over.{bytesOf}
 
 -- past the end both bytes read as 0
@@ -34,14 +35,15 @@ pub number-back : (x : ℕ) (t : List ℕ) → numberAt (bytesOf x ++ t) 0 ≡ x
 unfolding numberAt bytesOf
 number-back x t = div-add-mod' x 256
 
--- no bytes from any place are what a part that is not inside is
-pub part-none : (s : List ℕ) (i start n : ℕ) → length s < start + n → take (i - i) (drop i s) ≡ partAt s start n
-unfolding partAt
-part-none s i start n h = rw (lt-leb (start + n) (length s) h, sub-self)
+-- a part that is not inside is no bytes at the front, and one that is inside those that are asked for
+pub part-none : (s : List ℕ) (start n : ℕ) → length s < start + n → ([] ≡ partAt s start n) × (0 ≡ startAt s start n)
+unfolding partAt startAt
+part-none s start n h = rw (lt-leb (start + n) (length s) h) (refl, refl)
 
-pub part-some : (s : List ℕ) (start n : ℕ) → start + n ≤ length s → take (start + n - start) (drop start s) ≡ partAt s start n
-unfolding partAt
-part-some s start n h = rw (le-leb (start + n) (length s) h, add-sub-cancel-left)
+pub part-some : (s : List ℕ) (start n : ℕ) → start + n ≤ length s
+    → (take (start + n - start) (drop start s) ≡ partAt s start n) × (start ≡ startAt s start n)
+unfolding partAt startAt
+part-some s start n h = rw (le-leb (start + n) (length s) h, add-sub-cancel-left) (refl, refl)
 
 pub length-part : (s : List ℕ) (start n : ℕ) → start + n ≤ length s → length (partAt s start n) ≡ n
 unfolding partAt
@@ -70,6 +72,10 @@ part-join s start n k h =
 pub part-at : (s : List ℕ) (start n i : ℕ) → start + n ≤ length s → i < n → getD (partAt s start n) i 0 ≡ getD s (start + i) 0
 unfolding partAt
 part-at s start n i h g = rw (le-leb (start + n) (length s) h, getD-take, getD-drop)
+
+-- two references to one part hold the same bytes at the same place
+pub part-of-same : {s r r′ : RefT (List ℕ)} {start n : ℕ} → PartOf s start n r → PartOf s start n r′ → (now r ≡ now r′) × (r .ptr ≡ r′ .ptr)
+part-of-same p q = (p .holds ∙ sym (q .holds), λ i. ((p .block ∙ sym (q .block)) i, (p .offset ∙ sym (q .offset)) i))
 
 -- two bytes are the bytes of their number
 pub bytes-back : (b : List ℕ) → length b ≡ 2 → getD b 1 0 < 256 → bytesOf (numberAt b 0) ≡ b

@@ -2,7 +2,7 @@
 ghost use mathlib.Core.Path.{_≡_};
 ghost use Prim.Native.Nat.{_≤_};
 ghost use lib.ListN.{length};
-ghost use Rattle.wire.specs.Bytes.{byteAt, numberAt, partAt};
+ghost use Rattle.wire.specs.Bytes.{byteAt, numberAt, PartOf};
 ghost use Rattle.wire.specs.Over.{over, bytesOf, Tried};
 
 // The byte at a place, and 0 past the end.
@@ -22,15 +22,12 @@ pub fn number_at(s: &[u8], at: usize) -> u16
     0
 }
 
-// The `len` bytes from `start` on, and none where they are not all inside.
+// The `len` bytes from `start` on; none, at the front, where they are not all inside.
 pub fn part(s: &[u8], start: usize, len: usize) -> &[u8]
-    ensures { λ r. ⌜ now r ≡ partAt (now (s .entry)) start len ⌝ }
+    ensures { λ r. ⌜ PartOf (s .entry) start len r ⌝ }
 {
-    if s.len() < start {
+    if s.len() < start || s.len() - start < len {
         return &s[0..0];
-    }
-    if s.len() - start < len {
-        return &s[start..start];
     }
     let end = start + len;
     &s[start..end]

@@ -4,10 +4,10 @@ use borrow.Author.Needs.{needs}
 use mathlib.Core.Path.{refl}
 use native.Mathlib.Omega.{arith}
 use Rattle.wire.proofs.Over.{put-as, try-then}
-use mathlib.Core.Bool.{true}
 use mathlib.Core.List.{[]}
 use Rattle.wire.specs.Over.{bytesOf}
 use Rattle.messages.specs.Messages.{recordWith, endRecord}
+use Rattle.layout.specs.Table.{rowOf, bitOf}
 use Rattle.layout.specs.Write.{wordOf}
 use Rattle.messages.proofs.Putting.{no-room, room}
 use Rattle.declining.proofs.Laid.{laid-two}
@@ -60,8 +60,8 @@ same-length : tie.Need-same-length
 same-length c = search needs
 
 returns-2 : tie.Need-returns-2
-unfolding wordOf
-returns-2 c = room (c .before .before .before .before .before .before .before .before .before .before .before .before .if1 .left) (put-as (try-then (try-then (c .before .before .before .before .before .before .before .before .before .before .put-one .ensures .room (omega arith)) (c .before .before .before .before .before .before .put-empty .ensures) (omega (arith, c .before .before .before .before .before .before .before .before .before .before .before .before .if1 .left))) (c .before .before .put-empty2 .ensures) (c .before .before .before .before .before .before .before .before .before .before .before .before .if1 .left)) refl (laid-two (recordWith 1 true (bytesOf (c .before .before .before .before .before .before .before .before .before .before .before .before .before .before .args .protocol .0))) (recordWith 4 true []) endRecord))
+unfolding wordOf bitOf rowOf
+returns-2 c = room (c .before .before .before .before .before .before .before .before .before .before .before .before .if1 .left) (put-as (try-then (try-then (c .before .before .before .before .before .before .before .before .before .before .put-one .ensures .room (omega arith)) (c .before .before .before .before .before .before .put-empty .ensures) (omega (arith, c .before .before .before .before .before .before .before .before .before .before .before .before .if1 .left))) (c .before .before .put-empty2 .ensures) (c .before .before .before .before .before .before .before .before .before .before .before .before .if1 .left)) refl (laid-two (recordWith 1 (bytesOf (c .before .before .before .before .before .before .before .before .before .before .before .before .before .before .args .protocol .0))) (recordWith 4 []) endRecord))
 
 pub write-no-algorithm-spec : {M : Type 1} → statement M
 write-no-algorithm-spec =

@@ -4,10 +4,10 @@ use borrow.Author.Needs.{needs}
 use mathlib.Core.Path.{refl}
 use native.Mathlib.Omega.{arith}
 use Rattle.wire.proofs.Over.{put-as, try-then}
-use mathlib.Core.Bool.{true}
 use mathlib.Core.List.{[]}
 use Rattle.wire.specs.Over.{bytesOf}
 use Rattle.messages.specs.Messages.{recordWith, endRecord}
+use Rattle.layout.specs.Table.{rowOf, bitOf}
 use Rattle.layout.specs.Write.{wordOf}
 use Rattle.messages.proofs.Putting.{no-room, room}
 use Rattle.declining.proofs.Laid.{laid-one}
@@ -42,8 +42,8 @@ same-length : tie.Need-same-length
 same-length c = search needs
 
 returns-2 : tie.Need-returns-2
-unfolding wordOf
-returns-2 c = room (c .before .before .before .before .before .before .before .before .if1 .left) (put-as (try-then (c .before .before .before .before .before .before .put-empty .ensures .room (omega arith)) (c .before .before .put-empty2 .ensures) (c .before .before .before .before .before .before .before .before .if1 .left)) refl (laid-one (recordWith 1 true []) endRecord))
+unfolding wordOf bitOf rowOf
+returns-2 c = room (c .before .before .before .before .before .before .before .before .if1 .left) (put-as (try-then (c .before .before .before .before .before .before .put-empty .ensures .room (omega arith)) (c .before .before .put-empty2 .ensures) (c .before .before .before .before .before .before .before .before .if1 .left)) refl (laid-one (recordWith 1 []) endRecord))
 
 pub write-no-protocol-spec : {M : Type 1} → statement M
 write-no-protocol-spec =

@@ -58,7 +58,7 @@ returns-4 c = rw (c .enum-told4 .given .1)
 
 returns-5 : tie.Need-returns-5
 unfolding isSound
-returns-5 c = rw (c .before .before .enum-told5 .given .1) (c .is-utf8 .ensures ∙ ap wellFormed (c .before .of .ensures))
+returns-5 c = rw (c .before .before .enum-told5 .given .1) (c .is-utf8 .ensures ∙ ap wellFormed (c .before .of .ensures .holds))
 
 returns-6 : tie.Need-returns-6
 unfolding isSound

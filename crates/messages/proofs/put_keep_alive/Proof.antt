@@ -1,6 +1,7 @@
 -- `messages::put_keep_alive` meets its contract: the test is the definition's.
 -- Assumes nothing.
 use borrow.Author.Needs.{needs}
+use Rattle.layout.specs.Table.{rowOf, bitOf}
 use Rattle.layout.specs.Write.{wordOf}
 use Rattle.messages.proofs.Putting.{asked-record, not-asked}
 use Rattle.messages.proofs.put_keep_alive.Statement.{statement}
@@ -13,7 +14,7 @@ same-length : tie.Need-same-length
 same-length c = search needs
 
 returns : tie.Need-returns
-unfolding wordOf
+unfolding wordOf bitOf rowOf
 returns c = asked-record _ (c .before .before .before .before .if1 .taken) (c .before .before .put-empty .ensures)
 
 returns-2 : tie.Need-returns-2

@@ -45,10 +45,10 @@ loop-less : tie.Need-loop-less Inv-loop μ-loop
 loop-less c = search needs
 
 loop-again : tie.Need-loop-again Inv-loop μ-loop
-loop-again c = checking-on _ _ _ (c .before .before .before .before .before .loop .inv) (c .before .before .before .before .loop-test .taken) _ (c .before .before .before .number-at .ensures) (sym (ap wellFormed (c .before .before .part .ensures)) ∙ sym (c .before .is-utf8 .ensures) ∙ c .if1 .taken)
+loop-again c = checking-on _ _ _ (c .before .before .before .before .before .loop .inv) (c .before .before .before .before .loop-test .taken) _ (c .before .before .before .number-at .ensures) (sym (ap wellFormed (c .before .before .part .ensures .holds)) ∙ sym (c .before .is-utf8 .ensures) ∙ c .if1 .taken)
 
 returns : tie.Need-returns Inv-loop μ-loop
-returns c = checking-stop _ _ _ (c .before .before .before .before .before .loop .inv) (c .before .before .before .before .loop-test .taken) _ (c .before .before .before .number-at .ensures) (sym (ap wellFormed (c .before .before .part .ensures)) ∙ sym (c .before .is-utf8 .ensures) ∙ c .if1 .left)
+returns c = checking-stop _ _ _ (c .before .before .before .before .before .loop .inv) (c .before .before .before .before .loop-test .taken) _ (c .before .before .before .number-at .ensures) (sym (ap wellFormed (c .before .before .part .ensures .holds)) ∙ sym (c .before .is-utf8 .ensures) ∙ c .if1 .left)
 
 returns-2 : tie.Need-returns-2 Inv-loop μ-loop
 returns-2 c = checking-end _ _ _ (c .before .loop .inv) (c .loop-test .left)

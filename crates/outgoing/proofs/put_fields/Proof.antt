@@ -54,7 +54,7 @@ loop-less : tie.Need-loop-less Inv-loop μ-loop
 loop-less c = omega (arith, c .before .before .before .before .before .before .loop-test .taken, laying-onward _ _ _ _ _ _ _ (c .before .before .before .before .before .before .before .loop .inv) (c .before .before .before .before .before .before .loop-test .taken) _ (c .before .before .before .before .before .number-at .ensures))
 
 loop-again : tie.Need-loop-again Inv-loop μ-loop
-loop-again c = laying-on _ _ _ _ _ _ _ (c .before .before .before .before .before .before .before .loop .inv) (c .before .before .before .before .before .before .loop-test .taken) _ (c .before .before .before .before .before .number-at .ensures) _ _ (body-tried _ _ _ _ (c .before .before .before .before .part .ensures) (laying-body _ _ _ _ _ _ _ (c .before .before .before .before .before .before .before .loop .inv) (c .before .before .before .before .before .before .loop-test .taken) _ (c .before .before .before .before .before .number-at .ensures)) (omega arith) (c .before .before .put-body .ensures))
+loop-again c = laying-on _ _ _ _ _ _ _ (c .before .before .before .before .before .before .before .loop .inv) (c .before .before .before .before .before .before .loop-test .taken) _ (c .before .before .before .before .before .number-at .ensures) _ _ (body-tried _ _ _ _ (c .before .before .before .before .part .ensures .holds) (laying-body _ _ _ _ _ _ _ (c .before .before .before .before .before .before .before .loop .inv) (c .before .before .before .before .before .before .loop-test .taken) _ (c .before .before .before .before .before .number-at .ensures)) (omega arith) (c .before .before .put-body .ensures))
 
 same-length : tie.Need-same-length Inv-loop μ-loop
 same-length c = laying-long _ _ _ _ _ _ _ (c .before .loop .inv)

@@ -3,7 +3,6 @@
 use borrow.Author.Needs.{needs}
 use mathlib.Core.Path.{refl}
 use native.Mathlib.Omega.{arith}
-use mathlib.Core.Bool.{false}
 use mathlib.Core.List.{[]}
 use denote.Ref.{now}
 use Rattle.wire.proofs.Over.{put-as, tried-put, try-then}
@@ -49,7 +48,7 @@ same-length : tie.Need-same-length
 same-length c = search needs
 
 returns : tie.Need-returns
-returns c = let x = c .before .before .before .before .before .before .before .before .before .before .before .before .before .before .args .plan in let h = c .before .before .before .before .before .before .before .before .before .before .before .before .before .before .pre .1 in tried-put h (put-as (try-then (try-then (c .before .before .before .before .before .before .before .before .before .before .put-server .ensures .room (omega (arith, h))) (c .before .before .before .before .before .before .put-port .ensures) (omega (arith, h))) (c .before .before .put-keep-alive .ensures) h) refl (laid-options (serverRecord (x .name) (now (c .before .before .before .before .before .before .before .before .before .before .before .before .before .before .args .server))) (portRecord (x .port)) (ifAsked (x .«keep_alive») (recordWith 8 false []))))
+returns c = let x = c .before .before .before .before .before .before .before .before .before .before .before .before .before .before .args .plan in let h = c .before .before .before .before .before .before .before .before .before .before .before .before .before .before .pre .1 in tried-put h (put-as (try-then (try-then (c .before .before .before .before .before .before .before .before .before .before .put-server .ensures .room (omega (arith, h))) (c .before .before .before .before .before .before .put-port .ensures) (omega (arith, h))) (c .before .before .put-keep-alive .ensures) h) refl (laid-options (serverRecord (x .name) (now (c .before .before .before .before .before .before .before .before .before .before .before .before .before .before .args .server))) (portRecord (x .port)) (ifAsked (x .«keep_alive») (recordWith 8 []))))
 
 pub put-options-spec : {M : Type 1} → statement M
 put-options-spec =

@@ -1,6 +1,7 @@
 -- `outgoing::put_port` meets its contract: each arm knows whether a port is planned.
 -- Assumes nothing.
 use borrow.Author.Needs.{needs}
+use Rattle.layout.specs.Table.{rowOf, bitOf}
 use Rattle.layout.specs.Write.{wordOf}
 use Rattle.outgoing.proofs.Laid.{port-record, no-port}
 use Rattle.outgoing.proofs.put_port.Statement.{statement}
@@ -19,7 +20,7 @@ same-length : tie.Need-same-length
 same-length c = search needs
 
 returns : tie.Need-returns
-unfolding wordOf
+unfolding wordOf bitOf rowOf
 returns c = port-record _ _ _ (c .before .before .before .before .before .port .given .1) (c .before .before .put-one .ensures)
 
 returns-2 : tie.Need-returns-2

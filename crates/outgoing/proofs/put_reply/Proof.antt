@@ -5,11 +5,11 @@ use mathlib.Core.Path.{_≡_, sym, ap, _∙_}
 use native.Mathlib.Omega.{arith}
 use denote.Ref.{now}
 use mathlib.Core.List.{List, [], map}
-use mathlib.Core.Bool.{true, false}
 use Prim.Native.Nat.{ℕ, _+_, _*_}
 use lib.ListN.{length}
 use Rattle.wire.specs.Over.{bytesOf}
 use Rattle.wire.proofs.Over.{put-as, rest-room, put-then, try-then}
+use Rattle.layout.specs.Table.{rowOf, bitOf}
 use Rattle.layout.specs.Write.{wordOf}
 use Rattle.plan.specs.Plan.{replyLength}
 use Rattle.plan.proofs.Counting.{cookies-are}
@@ -87,8 +87,8 @@ same-length : tie.Need-same-length
 same-length c = search needs
 
 returns : tie.Need-returns
-unfolding replyLength wordOf
-returns c = λ l e. let a = c .before .before .before .before .before .before .before .before .before .before .before .before .before .before .before .before .before .before .before .before .before .before .before .args in let p = c .before .before .before .before .before .before .before .before .before .before .before .before .before .before .before .before .before .before .before .before .before .before .before .pre in let h = p .3 in let s = same-held (p .0) l (sym (p .1) ∙ e) in put-as (try-then (put-then (try-then (try-then (c .before .before .before .before .before .before .before .before .before .before .before .before .before .before .before .before .before .before .put-one .ensures .room (omega (arith, h))) (c .before .before .before .before .before .before .before .before .before .before .before .before .before .before .put-one2 .ensures) (omega (arith, h))) (c .before .before .before .before .before .before .before .before .before .before .put-options .ensures) (omega (arith, h))) (c .before .before .before .before .before .before .put-fields .ensures .1 1 (p .0) (cookies-are _ _ (p .0) (p .1) .are)) (omega (arith, h))) (c .before .before .put-empty .ensures) (omega (arith, h))) ((omega arith) ∙ ap (replyLength (a .plan)) s) (laid-reply (recordWith 1 true (bytesOf (a .plan .protocol .0))) (recordWith 4 true (bytesOf (a .plan .algorithm .0))) (serverRecord (a .plan .name) (now (a .server))) (portRecord (a .plan .port)) (ifAsked (a .plan .«keep_alive») (recordWith 8 false [])) (map (recordWith 5 false) (p .0)) endRecord ∙ ap (λ (k : List (List ℕ)). messageOf (replyRecords (a .plan) (now (a .server)) k)) s)
+unfolding replyLength wordOf bitOf rowOf
+returns c = λ l e. let a = c .before .before .before .before .before .before .before .before .before .before .before .before .before .before .before .before .before .before .before .before .before .before .before .args in let p = c .before .before .before .before .before .before .before .before .before .before .before .before .before .before .before .before .before .before .before .before .before .before .before .pre in let h = p .3 in let s = same-held (p .0) l (sym (p .1) ∙ e) in put-as (try-then (put-then (try-then (try-then (c .before .before .before .before .before .before .before .before .before .before .before .before .before .before .before .before .before .before .put-one .ensures .room (omega (arith, h))) (c .before .before .before .before .before .before .before .before .before .before .before .before .before .before .put-one2 .ensures) (omega (arith, h))) (c .before .before .before .before .before .before .before .before .before .before .put-options .ensures) (omega (arith, h))) (c .before .before .before .before .before .before .put-fields .ensures .1 1 (p .0) (cookies-are _ _ (p .0) (p .1) .are)) (omega (arith, h))) (c .before .before .put-empty .ensures) (omega (arith, h))) ((omega arith) ∙ ap (replyLength (a .plan)) s) (laid-reply (recordWith 1 (bytesOf (a .plan .protocol .0))) (recordWith 4 (bytesOf (a .plan .algorithm .0))) (serverRecord (a .plan .name) (now (a .server))) (portRecord (a .plan .port)) (ifAsked (a .plan .«keep_alive») (recordWith 8 [])) (map (recordWith 5) (p .0)) endRecord ∙ ap (λ (k : List (List ℕ)). messageOf (replyRecords (a .plan) (now (a .server)) k)) s)
 
 pub put-reply-spec : {M : Type 1} → statement M
 put-reply-spec =

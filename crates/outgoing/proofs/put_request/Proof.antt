@@ -5,9 +5,9 @@ use mathlib.Core.Path.{sym, ap, _∙_}
 use native.Mathlib.Omega.{arith}
 use denote.Ref.{now}
 use mathlib.Core.List.{List, map}
-use mathlib.Core.Bool.{true, false}
 use Prim.Native.Nat.{ℕ}
 use Rattle.wire.proofs.Over.{put-as, rest-room, put-then, try-then}
+use Rattle.layout.specs.Table.{rowOf, bitOf}
 use Rattle.layout.specs.Write.{wordOf}
 use Rattle.plan.specs.Tray.{namesIn}
 use Rattle.messages.specs.Messages.{recordWith, cellBytes, endRecord, messageOf, requestRecords, requestLength}
@@ -69,8 +69,8 @@ same-length : tie.Need-same-length
 same-length c = search needs
 
 returns : tie.Need-returns
-unfolding requestLength wordOf namesIn
-returns c = λ l e. let a = c .before .before .before .before .before .before .before .before .before .before .before .before .before .before .before .before .before .before .before .before .args in let p = c .before .before .before .before .before .before .before .before .before .before .before .before .before .before .before .before .before .before .before .before .pre in let h = p .4 in let s = same-held (p .0) l (sym (p .1) ∙ e) in put-as (try-then (put-then (try-then (list-tried _ (now (a .protocols)) (p .2) (c .before .before .before .before .before .before .before .before .before .before .before .before .before .before .put-list .ensures) .room (omega (arith, h))) (list-tried _ (now (a .algorithms)) (p .3) (c .before .before .before .before .before .before .before .before .before .before .put-list2 .ensures)) (omega (arith, h))) (c .before .before .before .before .before .before .put-fields .ensures .1 2 (p .0) (p .1)) (omega (arith, h))) (c .before .before .put-empty .ensures) h) (ap (requestLength (now (a .protocols)) (now (a .algorithms))) s) (laid-lists (recordWith 1 true (cellBytes (now (a .protocols)))) (recordWith 4 true (cellBytes (now (a .algorithms)))) (map (recordWith 13 false) (p .0)) endRecord ∙ ap (λ (k : List (List ℕ)). messageOf (requestRecords (now (a .protocols)) (now (a .algorithms)) k)) s)
+unfolding requestLength wordOf bitOf rowOf namesIn
+returns c = λ l e. let a = c .before .before .before .before .before .before .before .before .before .before .before .before .before .before .before .before .before .before .before .before .args in let p = c .before .before .before .before .before .before .before .before .before .before .before .before .before .before .before .before .before .before .before .before .pre in let h = p .4 in let s = same-held (p .0) l (sym (p .1) ∙ e) in put-as (try-then (put-then (try-then (list-tried _ (now (a .protocols)) (p .2) (c .before .before .before .before .before .before .before .before .before .before .before .before .before .before .put-list .ensures) .room (omega (arith, h))) (list-tried _ (now (a .algorithms)) (p .3) (c .before .before .before .before .before .before .before .before .before .before .put-list2 .ensures)) (omega (arith, h))) (c .before .before .before .before .before .before .put-fields .ensures .1 2 (p .0) (p .1)) (omega (arith, h))) (c .before .before .put-empty .ensures) h) (ap (requestLength (now (a .protocols)) (now (a .algorithms))) s) (laid-lists (recordWith 1 (cellBytes (now (a .protocols)))) (recordWith 4 (cellBytes (now (a .algorithms)))) (map (recordWith 13) (p .0)) endRecord ∙ ap (λ (k : List (List ℕ)). messageOf (requestRecords (now (a .protocols)) (now (a .algorithms)) k)) s)
 
 pub put-request-spec : {M : Type 1} → statement M
 put-request-spec =

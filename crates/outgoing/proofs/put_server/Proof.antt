@@ -2,6 +2,7 @@
 -- Assumes nothing.
 use borrow.Author.Needs.{needs}
 use native.Mathlib.Omega.{arith}
+use Rattle.layout.specs.Table.{rowOf, bitOf}
 use Rattle.layout.specs.Write.{wordOf}
 use Rattle.outgoing.proofs.Laid.{server-record, no-server}
 use Rattle.outgoing.proofs.put_server.Statement.{statement}
@@ -20,7 +21,7 @@ same-length : tie.Need-same-length
 same-length c = search needs
 
 returns : tie.Need-returns
-unfolding wordOf
+unfolding wordOf bitOf rowOf
 returns c = server-record _ _ _ _ (c .before .before .before .before .before .planned .given .1) (c .before .before .before .before .before .before .before .before .before .pre) (omega arith) (c .before .before .put-body .ensures)
 
 returns-2 : tie.Need-returns-2

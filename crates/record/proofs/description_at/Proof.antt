@@ -21,10 +21,10 @@ number-at-requires-2 : tie.Need-number-at-requires-2
 number-at-requires-2 c κs = search needs
 
 returns : tie.Need-returns
-returns c = pair-handed-on _ _ _ _ (pair-inside _ _ _ _ (c .before .before .if1 .taken) (c .before .number-at .ensures) (c .number-at2 .ensures)) (c .before .before .before .of .ensures)
+returns c = pair-handed-on _ _ _ _ (pair-inside _ _ _ _ (c .before .before .if1 .taken) (c .before .number-at .ensures) (c .number-at2 .ensures)) (c .before .before .before .of .ensures .holds)
 
 returns-2 : tie.Need-returns-2
-returns-2 c = pair-handed-on _ _ _ _ (pair-outside _ _ (c .if1 .left)) (c .before .of .ensures)
+returns-2 c = pair-handed-on _ _ _ _ (pair-outside _ _ (c .if1 .left)) (c .before .of .ensures .holds)
 
 pub description-at-spec : {M : Type 1} → statement M
 description-at-spec =

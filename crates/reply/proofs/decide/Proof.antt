@@ -2,6 +2,7 @@
 -- Assumes nothing.
 use mathlib.Core.Path.{refl, ap, _∙_}
 use borrow.Author.Tests.{eq-eqb, ne-eqb, lt-ltb, le-ltb}
+use Rattle.layout.specs.Table.{rowOf, shapeOf, isUnknown}
 use Rattle.walk.specs.Table.{known}
 use Rattle.walk.specs.Shown.{slotOf}
 use Rattle.walk.specs.declared.Seen.{Seen}
@@ -13,14 +14,14 @@ use Rattle.reply.proofs.decide.Statement.{statement}
 use Rattle.reply.proofs.decide.Tie as tie
 
 returns : tie.Need-returns
-unfolding slotOf known
+unfolding slotOf known isUnknown shapeOf rowOf
 returns c =
     ap toldAnswer (c .refused .ensures)
     ∙ taken _ _ _ (eq-eqb _ _ (c .before .if1 .taken))
     ∙ decided-is _ _ _ _ (c .before .before .before .before .before .pre) _ _ _ (c .before .before .before .found .ensures) refl refl
 
 returns-2 : tie.Need-returns-2
-unfolding slotOf known
+unfolding slotOf known isUnknown shapeOf rowOf
 returns-2 c =
     ap toldAnswer (c .refused2 .ensures)
     ∙ taken _ _ _ (eq-eqb _ _ (c .before .if2 .taken))
@@ -28,7 +29,7 @@ returns-2 c =
     ∙ decided-is _ _ _ _ (c .before .before .before .before .before .before .before .pre) _ _ _ (c .before .before .before .before .before .found .ensures) refl refl
 
 returns-3 : tie.Need-returns-3
-unfolding slotOf known
+unfolding slotOf known isUnknown shapeOf rowOf
 returns-3 c =
     ap toldAnswer (c .refused3 .ensures)
     ∙ taken _ _ _ (eq-eqb _ _ (c .before .if3 .taken))
@@ -37,7 +38,7 @@ returns-3 c =
     ∙ decided-is _ _ _ _ (c .before .before .before .before .before .before .before .before .before .before .pre) _ _ _ (c .before .before .before .before .before .before .before .before .found .ensures) (c .before .before .before .found2 .ensures) refl
 
 returns-4 : tie.Need-returns-4
-unfolding slotOf known
+unfolding slotOf known isUnknown shapeOf rowOf
 returns-4 c =
     ap toldAnswer (c .refused4 .ensures)
     ∙ taken _ _ _ (eq-eqb _ _ (c .before .if4 .taken))
@@ -47,7 +48,7 @@ returns-4 c =
     ∙ decided-is _ _ _ _ (c .before .before .before .before .before .before .before .before .before .before .before .before .pre) _ _ _ (c .before .before .before .before .before .before .before .before .before .before .found .ensures) (c .before .before .before .before .before .found2 .ensures) refl
 
 returns-5 : tie.Need-returns-5
-unfolding slotOf known
+unfolding slotOf known isUnknown shapeOf rowOf
 returns-5 c =
     ap toldAnswer (c .refused5 .ensures)
     ∙ taken _ _ _ (eq-eqb _ _ (c .before .if5 .taken))
@@ -58,7 +59,7 @@ returns-5 c =
     ∙ decided-is _ _ _ _ (c .before .before .before .before .before .before .before .before .before .before .before .before .before .before .before .pre) _ _ _ (c .before .before .before .before .before .before .before .before .before .before .before .before .before .found .ensures) (c .before .before .before .before .before .before .before .before .found2 .ensures) (ap (λ (x : Seen). x .count) (c .before .before .before .found3 .ensures))
 
 returns-6 : tie.Need-returns-6
-unfolding slotOf known
+unfolding slotOf known isUnknown shapeOf rowOf
 returns-6 c =
     ap toldAnswer (c .refused6 .ensures)
     ∙ taken _ _ _ (lt-ltb _ _ (c .before .if6 .taken))
@@ -70,7 +71,7 @@ returns-6 c =
     ∙ decided-is _ _ _ _ (c .before .before .before .before .before .before .before .before .before .before .before .before .before .before .before .before .pre) _ _ _ (c .before .before .before .before .before .before .before .before .before .before .before .before .before .before .found .ensures) (c .before .before .before .before .before .before .before .before .before .found2 .ensures) (ap (λ (x : Seen). x .count) (c .before .before .before .before .found3 .ensures))
 
 returns-7 : tie.Need-returns-7
-unfolding slotOf known
+unfolding slotOf known isUnknown shapeOf rowOf
 returns-7 c =
     c .accepted .ensures
     ∙ left _ _ _ (le-ltb _ _ (c .before .if6 .left))

@@ -13,7 +13,7 @@ use Rattle.reply.proofs.number_in.Tie as tie
 
 returns : tie.Need-returns
 unfolding numberIn
-returns c = c .number-at .ensures ∙ ap (λ (b : List ℕ). numberAt b 0) (c .before .part .ensures) ∙ ap (λ (p : Part). numberAt (partAt (now (c .before .before .before .before .args .message)) (p .start) (p .len)) 0) (c .before .before .body .ensures)
+returns c = c .number-at .ensures ∙ ap (λ (b : List ℕ). numberAt b 0) (c .before .part .ensures .holds) ∙ ap (λ (p : Part). numberAt (partAt (now (c .before .before .before .before .args .message)) (p .start) (p .len)) 0) (c .before .before .body .ensures)
 
 pub number-in-spec : {M : Type 1} → statement M
 number-in-spec = tie.close (tie.spec (λ c κs. search needs) (λ c κs. search needs) (λ c κs. search needs) returns)

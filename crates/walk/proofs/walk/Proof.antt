@@ -9,10 +9,10 @@ use Rattle.walk.proofs.walk.Statement.{statement}
 use Rattle.walk.proofs.walk.Tie as tie
 
 walk-cut-requires : tie.Need-walk-cut-requires
-walk-cut-requires c κs = omega (arith, ap length (c .before .cut-at .ensures), length-take (c .before .before .before .args .limit) (now (c .before .before .before .args .message)))
+walk-cut-requires c κs = omega (arith, ap length (c .before .cut-at .ensures .holds), length-take (c .before .before .before .args .limit) (now (c .before .before .before .args .message)))
 
 returns : tie.Need-returns
-returns c = rw (sym (c .before .before .cut-at .ensures)) (c .walk-cut .ensures)
+returns c = rw (sym (c .before .before .cut-at .ensures .holds)) (c .walk-cut .ensures)
 
 pub walk-spec : {M : Type 1} → statement M
 walk-spec = tie.close (tie.spec (λ c κs. search needs) walk-cut-requires returns)

@@ -1,68 +1,37 @@
--- `wire::part` meets its contract: where the part is not inside the answer is empty, and so is the definition.
+-- `wire::part` meets its contract: where the part is not inside the answer is empty and lies at the front, as the definition says.
 -- Assumes nothing.
-use borrow.Author.Needs.{needs}
+use mathlib.Core.Path.{refl}
+use mathlib.Core.Logic.{⊎-elim}
+use Prim.Native.Nat.{_+_, _<_, _≤_}
 use native.Mathlib.Omega.{arith}
+use denote.Ref.{now}
+use lib.ListN.{length}
+use borrow.Author.Needs.{needs}
+use borrow.Author.Tests.{ltb-true, ltb-false}
 use Rattle.wire.proofs.Bytes.{part-none, part-some}
 use Rattle.wire.proofs.part.Statement.{statement}
 use Rattle.wire.proofs.part.Tie as tie
 
-sub-result : tie.Need-sub-result
-sub-result c = search needs
-
-part-result-start : tie.Need-part-result-start
-part-result-start c = search needs
-
-part-result-end : tie.Need-part-result-end
-part-result-end c = search needs
-
 returns : tie.Need-returns
-returns c = part-none _ 0 _ _ (omega arith)
-
-sub-if2 : tie.Need-sub-if2
-sub-if2 c = search needs
-
-sub-result-2 : tie.Need-sub-result-2
-sub-result-2 c = search needs
-
-part-result-start-2 : tie.Need-part-result-start-2
-part-result-start-2 c = search needs
-
-part-result-end-2 : tie.Need-part-result-end-2
-part-result-end-2 c = search needs
-
-returns-2 : tie.Need-returns-2
-returns-2 c = part-none _ (c .before .before .before .args .start) _ _ (omega arith)
+returns c =
+    let a = c .before .before .args in
+    let h : length (now (a .s)) < a .start + a .len = ⊎-elim (λ t. omega arith) (λ t. omega (arith, ltb-true)) (c .before .if1 .came) in
+    let p = part-none (now (a .s)) (a .start) (a .len) h in
+    record { holds = p .0; block = refl; offset = omega arith }
 
 add-end : tie.Need-add-end
-add-end c = search needs
+add-end c = omega (arith, ltb-false)
 
-sub-result-3 : tie.Need-sub-result-3
-sub-result-3 c = search needs
+part-result-end-2 : tie.Need-part-result-end-2
+part-result-end-2 c = omega (arith, ltb-false)
 
-part-result-start-3 : tie.Need-part-result-start-3
-part-result-start-3 c = search needs
-
-part-result-end-3 : tie.Need-part-result-end-3
-part-result-end-3 c = search needs
-
-returns-3 : tie.Need-returns-3
-returns-3 c = part-some _ _ _ (omega arith)
+returns-2 : tie.Need-returns-2
+returns-2 c =
+    let a = c .before .before .before .args in
+    let p = part-some (now (a .s)) (a .start) (a .len) (omega (arith, ltb-false)) in
+    record { holds = p .0; block = refl; offset = omega arith }
 
 pub part-spec : {M : Type 1} → statement M
 part-spec =
     tie.close
-    (tie.spec
-    sub-result
-    part-result-start
-    part-result-end
-    returns
-    sub-if2
-    sub-result-2
-    part-result-start-2
-    part-result-end-2
-    returns-2
-    add-end
-    sub-result-3
-    part-result-start-3
-    part-result-end-3
-    returns-3)
+    (tie.spec (λ c. search needs) (λ c. search needs) (λ c. search needs) (λ c. search needs) returns add-end (λ c. search needs) (λ c. search needs) part-result-end-2 returns-2)

@@ -1,4 +1,4 @@
--- `record::write::layout_of` meets its contract: each arm knows the case, and the table computes at it.
+-- `record::write::layout_of` meets its contract: each arm knows the case, whose kind and value the layout is made of.
 -- Assumes nothing.
 use borrow.Author.Needs.{needs}
 use Rattle.record.proofs.write.layout_of.Statement.{statement}
@@ -91,9 +91,6 @@ with-parts-requires-11 c κs = search needs
 enum-known-item-13 : tie.Need-enum-known-item-13
 enum-known-item-13 c = search needs
 
-with-parts-requires-12 : tie.Need-with-parts-requires-12
-with-parts-requires-12 c κs = search needs
-
 returns : tie.Need-returns
 returns c = rw (c .before .enum-told .given .1) (c .with-parts .ensures)
 
@@ -137,7 +134,7 @@ returns-14 : tie.Need-returns-14
 returns-14 c = rw (c .before .before .item12 .given .1) (c .with-parts11 .ensures)
 
 returns-15 : tie.Need-returns-15
-returns-15 c = rw (c .before .before .item13 .given .1) (c .with-parts12 .ensures)
+returns-15 c = rw (c .before .item13 .given .1)
 
 pub layout-of-spec : {M : Type 1} → statement M
 layout-of-spec =
@@ -172,7 +169,6 @@ layout-of-spec =
     enum-known-item-12
     with-parts-requires-11
     enum-known-item-13
-    with-parts-requires-12
     returns
     returns-2
     returns-3

@@ -1,0 +1,104 @@
+-- Demand 3 of a reader, from the laws of its definition: first of the definition, then of every call that answers as the definition does.
+-- Assumes nothing.
+use mathlib.Core.Path.{_≡_, refl, sym, ap, subst, _∙_}
+use mathlib.Core.List.{List, _∷_, _++_}
+use Prim.Native.Nat.{ℕ}
+use Rattle.nts.specs.Refusal.{Refused}
+use Rattle.walk.specs.Walk.{Sighting}
+use Rattle.walk.specs.Judge.{Under, Answer, refused, accepted}
+use Rattle.walk.specs.Message.{Record, End, Each, message, Parts}
+use Rattle.walk.proofs.Demand3.{Showing, Ordered}
+use Rattle.promises.specs.Demand3.{Reader, Likewise, Steady, Demand3, Question, defined}
+
+-- the form Q of what the definition accepts, and what is shown of that
+module _ {Q : Type 0 → Type 0} (reading : List ℕ → Under → Answer Q) (shows : List ℕ → Q Sighting → Q (List ℕ)) where
+  -- ---- the definition
+
+  module _ (L : Ordered reading shows) where
+    abbrev D : Reader (Q (List ℕ))
+    D = defined reading shows
+
+    -- what is shown of a message is shown of a call that was asked likewise
+    asked-likewise : (c d : Question) (m : List ℕ) (x : Q (List ℕ)) → Likewise D c d m → Showing reading shows m (c .under) x → D .Accepts d x
+    asked-likewise c d m x l h = rw (l .asked, l .under) h
+
+    module _ (c : Question) (x : Q (List ℕ)) (h : D .Accepts c x) (p : Parts Record End (c .message) (c .under .limit)) where
+      again : reading (message (p .front) (p .last) (p .tail)) (c .under) ≡ accepted (h .0)
+      again = ap (λ (m : List ℕ). reading m (c .under)) (sym (p .joined)) ∙ h .1
+
+      shown-again : shows (message (p .front) (p .last) (p .tail)) (h .0) ≡ x
+      shown-again = ap (λ (m : List ℕ). shows m (h .0)) (sym (p .joined)) ∙ h .2
+
+      -- the front in two, around the place of a record more
+      module _ (xs ys : List (List ℕ)) (f : p .front ≡ xs ++ ys) where
+        in-two : Each Record (xs ++ ys)
+        in-two = subst (Each Record) f (p .each)
+
+        again-in-two : reading (message (xs ++ ys) (p .last) (p .tail)) (c .under) ≡ accepted (h .0)
+        again-in-two = ap (λ (l : List (List ℕ)). reading (message l (p .last) (p .tail)) (c .under)) (sym f) ∙ again
+
+        shown-in-two : shows (message (xs ++ ys) (p .last) (p .tail)) (h .0) ≡ x
+        shown-in-two = ap (λ (l : List (List ℕ)). shows (message l (p .last) (p .tail)) (h .0)) (sym f) ∙ shown-again
+
+      steady-by : Steady D c x p
+      steady-by = record {
+        reordered = λ cs t d l perm names cookies.
+            let s = L .reordered (c .under) (p .front) cs (p .last) (p .tail) t (h .0) (p .each) (p .ends) perm names cookies again in
+            asked-likewise c d (message cs (p .last) t) x l (s .0, s .1, s .2 ∙ shown-again);
+        inserted = λ xs ys u t d l f w k fits b.
+            let s = L .inserted (c .under) xs ys u (p .last) (p .tail) t (h .0) (in-two xs ys f) (p .ends) w k b fits (again-in-two xs ys f) in
+            asked-likewise c d (message (xs ++ (u ∷ ys)) (p .last) t) x l (s .0, s .1, s .2 ∙ shown-in-two xs ys f);
+        inserted-critical = λ xs ys u t d l f w k fits b.
+            let s = L .inserted-critical (c .under) xs ys u (p .last) (p .tail) t (h .0) (in-two xs ys f) (p .ends) w k b fits (again-in-two xs ys f) in
+            rw (l .asked, l .under) s;
+      }
+
+    pub by-definition : Demand3 D
+    by-definition = record {
+      is = λ c x h. L .accepted-is (c .message) (c .under) (h .0) (h .1);
+      steady = λ c x h p. steady-by c x h p;
+    }
+
+  -- ---- calls that answer as the definition does
+
+  -- what is in hand is a function of the bodies shown
+  pub record Faithful {S : Type 0} (R : Reader S) (inHand : Q (List ℕ) → S) : Type 1 where
+    pub accepted-by : (c : R .Call) (s : S) → R .Accepts c s
+        → (q : Q Sighting) × (reading (R .asked c) (R .under c) ≡ accepted q) × (inHand (shows (R .asked c) q) ≡ s)
+    pub accepts : (c : R .Call) (q : Q Sighting) → reading (R .asked c) (R .under c) ≡ accepted q → R .Accepts c (inHand (shows (R .asked c) q))
+    pub refuses : (c : R .Call) (y : Refused) → reading (R .asked c) (R .under c) ≡ refused y → R .Refuses c y
+
+  module _ {S : Type 0} (R : Reader S) (inHand : Q (List ℕ) → S) (F : Faithful R inHand) (T : Demand3 (defined reading shows)) where
+    abbrev question : R .Call → Question
+    question c = record { message = R .asked c; under = R .under c }
+
+    likewise : (c d : R .Call) (m : List ℕ) → Likewise R c d m → Likewise (defined reading shows) (question c) (question d) m
+    likewise c d m l = record { asked = l .asked; under = l .under }
+
+    shown : (d : R .Call) (x : Q (List ℕ)) (s : S) → inHand x ≡ s → Showing reading shows (R .asked d) (R .under d) x → R .Accepts d s
+    shown d x s e h = subst (R .Accepts d) (ap inHand (h .2) ∙ e) (F .accepts d (h .0) (h .1))
+
+    module _ (c : R .Call) (s : S) (h : R .Accepts c s) where
+      by : (q : Q Sighting) × (reading (R .asked c) (R .under c) ≡ accepted q) × (inHand (shows (R .asked c) q) ≡ s)
+      by = F .accepted-by c s h
+
+      abbrev x : Q (List ℕ)
+      x = shows (R .asked c) (by .0)
+
+      accepts-so : Showing reading shows (R .asked c) (R .under c) x
+      accepts-so = (by .0, by .1, refl)
+
+      carried-steady : (p : Parts Record End (R .asked c) (R .under c .limit)) → Steady R c s p
+      carried-steady p =
+          let i = T .steady (question c) x accepts-so p in
+          record {
+            reordered = λ cs t d l perm names cookies. shown d x s (by .2) (i .reordered cs t (question d) (likewise c d _ l) perm names cookies);
+            inserted = λ xs ys u t d l f w k fits b. shown d x s (by .2) (i .inserted xs ys u t (question d) (likewise c d _ l) f w k fits b);
+            inserted-critical = λ xs ys u t d l f w k fits b. F .refuses d _ (i .inserted-critical xs ys u t (question d) (likewise c d _ l) f w k fits b);
+          }
+
+    pub by-calls : Demand3 R
+    by-calls = record {
+      is = λ c s h. T .is (question c) (x c s h) (accepts-so c s h);
+      steady = carried-steady;
+    }
