@@ -12,18 +12,25 @@
 enum { STACK = 1 << 20, NAMES = 2000 };
 
 static unsigned char stack[STACK] __attribute__((aligned(4096)));
-static uint8_t message[65535], text[65535], tray[1024], names[1024], out[NTSKE_LISTING];
+static uint8_t message[65535], text[65535], buffer[65535], tray[1024], names[1024], out[NTSKE_LISTING];
 static uint16_t table[2 * NAMES], numbers[2] = { NTSKE_NTPV4, NTSKE_AES_SIV_CMAC_256 };
 static struct ntske_request request;
 static struct ntske_reply reply;
 static struct ntske_record_read record;
 static struct ntske_choice choice;
 static struct ntske_plan plan;
+static struct ntske_connection line;
 static size_t message_len, reply_len, used, count;
 
 static uint64_t nothing(void) { return NTSKE_OK; }
 static uint64_t read_request(void) { return ntske_read_request(message, message_len, NTSKE_LIMIT, table, 2 * NAMES, &request); }
 static uint64_t read_reply(void) { return ntske_read_reply(out, reply_len, NTSKE_LIMIT, table, 2 * NAMES, &reply); }
+static uint64_t feed_request(void) {
+    return ntske_connection_new(NTSKE_LIMIT, &line) | ntske_feed_request(&line, message, message_len, buffer, sizeof buffer, table, 2 * NAMES, &request);
+}
+static uint64_t feed_reply(void) {
+    return ntske_connection_new(NTSKE_LIMIT, &line) | ntske_feed_reply(&line, out, reply_len, buffer, sizeof buffer, table, 2 * NAMES, &reply);
+}
 static uint64_t read_record(void) { return ntske_read_record(message, message_len, 12, &record); }
 static uint64_t is_utf8(void) { return !ntske_is_utf8(text, sizeof text); }
 static uint64_t list(void) { return ntske_list(message, message_len, NTSKE_LIMIT, NAMES, out, sizeof out, &count); }
@@ -66,7 +73,7 @@ static size_t deep(uint64_t (*call)(void)) {
 int main(void) {
     static const struct { const char *name; uint64_t (*call)(void); } calls[] = {
         { "choose", choose }, { "plan_append", append }, { "plan_length", plan_length }, { "write_reply", write_reply }, { "read_reply", read_reply },
-        { "read_request", read_request }, { "read_record", read_record }, { "is_utf8", is_utf8 }, { "list", list }, { "append_denied", append_denied },
+        { "feed_reply", feed_reply }, { "read_request", read_request }, { "feed_request", feed_request }, { "read_record", read_record }, { "is_utf8", is_utf8 }, { "list", list }, { "append_denied", append_denied },
         { "write_request", write_request }, { "write_support_reply", write_support_reply }, { "write_record", write_record },
     };
     static const uint8_t lists[] = { 0x80, 1, 0, 2, 0, 0, 0x80, 4, 0, 2, 0, 15 }, end[] = { 0x80, 0, 0, 0 };
@@ -84,6 +91,7 @@ int main(void) {
     message_len += sizeof end;
     if (ntske_plan_new(numbers[0], numbers[1], &plan) != NTSKE_OK)
         return 1;
+    deep(nothing); /* the first thread of a process may go deeper by itself */
     base = deep(nothing);
     for (i = 0; i < sizeof calls / sizeof *calls; i++)
         printf("stack %s %zu\n", calls[i].name, deep(calls[i].call) - base);

@@ -2,7 +2,9 @@
  * Client and server of a key exchange in C. Each side has one end of a pair of pipes, where a gateway has a TLS connection; the keys that TLS would
  * export (ntske_context and ntske_key_length say which), and what a server seals into its cookies, are left out. What it prints is in host.out.
  *
- *     ./archive && cc -std=c11 -Iinclude examples/host.c target/lib/libntske.a -o host && ./host
+ *     ./archive && cc -std=c11 -Iinclude examples/host.c target/lib/libntske.a -o host && ./host [BYTES]
+ *
+ * A message is read as it comes: a side hands over what it takes off its pipe, at most so many BYTES at once, until there is an answer.
  */
 #define _POSIX_C_SOURCE 200809L
 #include "ntske.h"
@@ -12,7 +14,10 @@
 #include <string.h>
 #include <unistd.h>
 
-enum { SIZE = 4096, ENTRIES = 16, HEADER = 4 };
+enum { SIZE = 4096, ENTRIES = 16 };
+
+/* How many bytes are taken off a pipe at once. */
+static size_t most = SIZE;
 
 /* A reader's refusal in words, with its place and the code beside it. */
 static void tell(const char *who, uint64_t answer)
@@ -34,33 +39,12 @@ static void send_all(int to, const uint8_t *bytes, size_t len)
     must(write(to, bytes, len) == (ssize_t)len);
 }
 
-/* Whether these bytes hold a message through its end record. A header is two bytes with the kind in their low fifteen bits, and two with the body's size. */
-static int is_whole(const uint8_t *message, size_t len)
+/* The next piece of what comes off a pipe; it has no byte where the other side has closed. */
+static size_t take(int from, uint8_t piece[SIZE])
 {
-    size_t at = 0;
-    while (len - at >= HEADER) {
-        unsigned kind = (message[at] & 0x7FU) << 8 | message[at + 1];
-        size_t size = (size_t)message[at + 2] << 8 | message[at + 3];
-        if (len - at - HEADER < size)
-            return 0;
-        if (kind == NTSKE_KIND_END_OF_MESSAGE)
-            return 1;
-        at += HEADER + size;
-    }
-    return 0;
-}
-
-/* Takes bytes off a pipe until an end record is there, the buffer is full, or none come any more. What was sent is for the reader to judge. */
-static size_t receive(int from, uint8_t message[SIZE])
-{
-    size_t len = 0;
-    ssize_t got;
-    do {
-        got = read(from, message + len, SIZE - len);
-        must(got >= 0);
-        len += (size_t)got;
-    } while (got > 0 && len < SIZE && !is_whole(message, len));
-    return len;
+    ssize_t got = read(from, piece, most);
+    must(got >= 0);
+    return (size_t)got;
 }
 
 /* The reply to a key-exchange request that was read: its length in `out`. */
@@ -111,12 +95,22 @@ static size_t answer_request(const uint8_t *message, size_t len, const uint16_t 
 
 static void server(int from, int to)
 {
-    uint8_t message[SIZE], out[SIZE];
+    uint8_t piece[SIZE], message[SIZE], out[SIZE];
     uint16_t table[2 * ENTRIES];
+    struct ntske_connection line;
     struct ntske_request request;
-    size_t len = receive(from, message), written = 0;
+    size_t written = 0;
+    uint64_t answer;
 
-    uint64_t answer = ntske_read_request(message, len, SIZE, table, 2 * ENTRIES, &request);
+    must(ntske_connection_new(SIZE, &line) == NTSKE_OK);
+    do {
+        size_t len = take(from, piece);
+        if (len > 0)
+            answer = ntske_feed_request(&line, piece, len, message, SIZE, table, 2 * ENTRIES, &request);
+        else
+            answer = ntske_close_request(&line, message, SIZE, table, 2 * ENTRIES, &request);
+    } while (answer == NTSKE_WAITING);
+
     if (answer != NTSKE_OK) {
         tell("server", answer);
         must(ntske_write_error(ntske_error_code(answer), out, SIZE, &written) == NTSKE_OK);
@@ -124,20 +118,29 @@ static void server(int from, int to)
         printf("server: no key exchange\n");
         must(ntske_write_error(NTSKE_CODE_BAD_REQUEST, out, SIZE, &written) == NTSKE_OK);
     } else {
-        written = answer_request(message, len, table, &request.key_exchange, out);
+        written = answer_request(message, line.gathered, table, &request.key_exchange, out);
     }
     send_all(to, out, written);
 }
 
 static void client(int from)
 {
-    uint8_t message[SIZE];
+    uint8_t piece[SIZE], message[SIZE];
     uint16_t table[2 * ENTRIES];
+    struct ntske_connection line;
     struct ntske_reply reply;
     struct ntske_range cookie;
-    size_t len = receive(from, message);
+    uint64_t answer;
 
-    uint64_t answer = ntske_read_reply(message, len, SIZE, table, 2 * ENTRIES, &reply);
+    must(ntske_connection_new(SIZE, &line) == NTSKE_OK);
+    do {
+        size_t len = take(from, piece);
+        if (len > 0)
+            answer = ntske_feed_reply(&line, piece, len, message, SIZE, table, 2 * ENTRIES, &reply);
+        else
+            answer = ntske_close_reply(&line, message, SIZE, table, 2 * ENTRIES, &reply);
+    } while (answer == NTSKE_WAITING);
+
     if (answer != NTSKE_OK) {
         tell("client", answer);
         return;
@@ -149,7 +152,7 @@ static void client(int from)
         printf(", port %zu", reply.port);
     printf("\n");
     for (size_t i = 0; i < reply.cookies; i++) {
-        must(ntske_entry(message, len, table, 2 * ENTRIES, i, &cookie) == NTSKE_OK);
+        must(ntske_entry(message, line.gathered, table, 2 * ENTRIES, i, &cookie) == NTSKE_OK);
         printf("client: a cookie of %zu bytes: %.*s\n", cookie.len, (int)cookie.len, (const char *)message + cookie.start);
     }
 }
@@ -176,10 +179,12 @@ static void exchange(const char *title, const uint8_t *request, size_t len, enum
     close(down[1]);
 }
 
-int main(void)
+int main(int argc, char **argv)
 {
     static const uint16_t protocols[] = {NTSKE_NTPV4}, algorithms[] = {NTSKE_AES_SIV_CMAC_512, NTSKE_AES_SIV_CMAC_256};
     static const char name[] = "old.example";
+    /* of one character, which has two bytes */
+    static const char character[] = "\xC3\xA9";
     /* a list of algorithms with three bytes; its end record is there */
     static const uint8_t ill_formed[] = {0x80, 1, 0, 2, 0, 0, 0x80, 4, 0, 3, 0, 15, 0, 0x80, 0, 0, 0};
     struct ntske_record unknown = {.kind = 16385, .critical = 1};
@@ -187,12 +192,19 @@ int main(void)
     uint8_t out[SIZE], denied[64];
     size_t used = 0, first = 0, written = 0;
 
-    must(ntske_version() == NTSKE_VERSION);
+    if (argc > 1)
+        most = strtoul(argv[1], NULL, 10);
+    must(most >= 1 && most <= SIZE && ntske_version() == NTSKE_VERSION);
     must(ntske_append_denied((const uint8_t *)name, strlen(name), denied, sizeof denied, &used) == NTSKE_OK);
     must(ntske_write_request(protocols, 1, algorithms, 2, denied, sizeof denied, used, out, SIZE, &written) == NTSKE_OK);
     exchange("a key exchange", out, written, WAITS);
 
     exchange("a request that is cut", out, 10, CLOSES);
+
+    used = 0;
+    must(ntske_append_denied((const uint8_t *)character, strlen(character), denied, sizeof denied, &used) == NTSKE_OK);
+    must(ntske_write_request(protocols, 1, algorithms + 1, 1, denied, sizeof denied, used, out, SIZE, &written) == NTSKE_OK);
+    exchange("a name of one character in two bytes", out, written, WAITS);
 
     exchange("a record that is ill-formed", ill_formed, sizeof ill_formed, WAITS);
 

@@ -1,12 +1,14 @@
 //! Client and server of a key exchange in Rust. Each side has one end of a pair of sockets, where a gateway has a TLS connection; the keys that TLS
 //! would export (exporter_context and key_length say which), and what a server seals into its cookies, are left out. What it prints is in host.out.
 //!
-//!     ./archive && cargo run --manifest-path bindings/rust/Cargo.toml --example host
+//!     ./archive && cargo run --manifest-path bindings/rust/Cargo.toml --example host [-- BYTES]
+//!
+//! A message is read as it comes: a side hands over what it takes off its socket, at most so many BYTES at once, until there is an answer.
 
 use ntske::{
     choose, choose_protocol, write_error, write_no_algorithm, write_no_protocol, write_request,
-    AeadAlgorithm, Denied, ErrorCode, List, Message, Name, Names, NextProtocol, Plan, Record,
-    Refused, Request, Tray,
+    AeadAlgorithm, Connection, Denied, ErrorCode, Fed, List, Name, Names, NextProtocol, Plan,
+    Record, Refused, Request, Tray,
 };
 use std::io::{Read, Write};
 use std::net::Shutdown;
@@ -17,34 +19,6 @@ type Outcome<T> = Result<T, Box<dyn std::error::Error>>;
 const SIZE: usize = 4096;
 const LIMIT: u16 = 4096;
 const ENTRIES: usize = 16;
-
-/// Whether these bytes hold a message through its end record. A header is two bytes with the kind in their low fifteen bits, and two with the body's
-/// size.
-fn is_whole(mut message: &[u8]) -> bool {
-    while let [high, low, size_high, size_low, rest @ ..] = message {
-        let size = u16::from_be_bytes([*size_high, *size_low]).into();
-        if rest.len() < size {
-            return false;
-        }
-        if high & 0x7F == 0 && *low == 0 {
-            return true;
-        }
-        message = &rest[size..];
-    }
-    false
-}
-
-/// Takes bytes off a stream until an end record is there, the buffer is full, or none come any more. What was sent is for the reader to judge.
-fn receive<'m>(from: &mut UnixStream, message: &'m mut [u8]) -> Outcome<Message<'m>> {
-    let mut len = 0;
-    loop {
-        let got = from.read(&mut message[len..])?;
-        len += got;
-        if got == 0 || is_whole(&message[..len]) {
-            return Ok(Message::new(&message[..len]));
-        }
-    }
-}
 
 /// The reply to a key-exchange request.
 fn answer_request<'o>(
@@ -92,10 +66,21 @@ fn answer_request<'o>(
     Ok(reply)
 }
 
-fn server(stream: &mut UnixStream) -> Outcome<()> {
+fn server(stream: &mut UnixStream, piece: &mut [u8]) -> Outcome<()> {
     let (mut buffer, mut out, mut table) = ([0; SIZE], [0; SIZE], [0; 2 * ENTRIES]);
-    let message = receive(stream, &mut buffer)?;
-    let reply = match message.request(LIMIT, &mut table) {
+    let mut line = Connection::start(LIMIT);
+    let request = loop {
+        let len = stream.read(piece)?;
+        if len == 0 {
+            break line.close_request(&mut buffer, &mut table);
+        }
+        match line.feed_request(&piece[..len], &mut buffer, &mut table) {
+            Ok(Fed::Waiting) => {}
+            Ok(Fed::Accepted(request)) => break Ok(request),
+            Err(refusal) => break Err(refusal),
+        }
+    };
+    let reply = match request {
         Ok(Request::KeyExchange {
             protocols,
             algorithms,
@@ -114,10 +99,21 @@ fn server(stream: &mut UnixStream) -> Outcome<()> {
     Ok(stream.shutdown(Shutdown::Write)?)
 }
 
-fn client(stream: &mut UnixStream) -> Outcome<()> {
+fn client(stream: &mut UnixStream, piece: &mut [u8]) -> Outcome<()> {
     let (mut buffer, mut table) = ([0; SIZE], [0; 2 * ENTRIES]);
-    let message = receive(stream, &mut buffer)?;
-    let reply = match message.reply(LIMIT, &mut table) {
+    let mut line = Connection::start(LIMIT);
+    let reply = loop {
+        let len = stream.read(piece)?;
+        if len == 0 {
+            break line.close_reply(&mut buffer, &mut table);
+        }
+        match line.feed_reply(&piece[..len], &mut buffer, &mut table) {
+            Ok(Fed::Waiting) => {}
+            Ok(Fed::Accepted(reply)) => break Ok(reply),
+            Err(refusal) => break Err(refusal),
+        }
+    };
+    let reply = match reply {
         Ok(reply) => reply,
         Err(refusal) => {
             println!("client: {refusal}");
@@ -153,8 +149,9 @@ enum Then {
     Closes,
 }
 
-/// One exchange: what the client sends, what the server makes of it, and what the client makes of the reply.
-fn exchange(title: &str, request: &[u8], then: Then) -> Outcome<()> {
+/// One exchange: what the client sends, what the server makes of it, and what the client makes of the reply. Each takes as many bytes off its socket
+/// at once as a piece has room for.
+fn exchange(title: &str, request: &[u8], then: Then, piece: &mut [u8]) -> Outcome<()> {
     let (mut ours, mut theirs) = UnixStream::pair()?;
     println!("== {title}");
     println!("client: sends {} bytes", request.len());
@@ -162,8 +159,8 @@ fn exchange(title: &str, request: &[u8], then: Then) -> Outcome<()> {
     if then == Then::Closes {
         ours.shutdown(Shutdown::Write)?;
     }
-    server(&mut theirs)?;
-    client(&mut ours)
+    server(&mut theirs, piece)?;
+    client(&mut ours, piece)
 }
 
 fn main() -> Outcome<()> {
@@ -172,24 +169,43 @@ fn main() -> Outcome<()> {
         AeadAlgorithm::AES_SIV_CMAC_512,
         AeadAlgorithm::AES_SIV_CMAC_256,
     ];
-    let (mut out, mut buffer) = ([0; SIZE], [0; 64]);
+    let (mut out, mut buffer, mut other) = ([0; SIZE], [0; 64], [0; 64]);
     let nobody = Names::new(&mut []);
+    let most = std::env::args()
+        .nth(1)
+        .map_or(Ok(SIZE), |bytes| bytes.parse())?;
+    let piece = &mut vec![0; most][..];
 
     let mut denied = Names::new(&mut buffer);
     denied.append(Name::new("old.example"))?;
     let request = write_request(&protocols, &algorithms, &denied, &mut out)?;
-    exchange("a key exchange", request, Then::Waits)?;
+    exchange("a key exchange", request, Then::Waits, piece)?;
 
-    exchange("a request that is cut", &request[..10], Then::Closes)?;
+    exchange("a request that is cut", &request[..10], Then::Closes, piece)?;
+
+    let mut denied = Names::new(&mut other);
+    denied.append(Name::new("\u{e9}"))?;
+    let request = write_request(&protocols, &algorithms[1..], &denied, &mut out)?;
+    exchange(
+        "a name of one character in two bytes",
+        request,
+        Then::Waits,
+        piece,
+    )?;
 
     // three bytes of algorithms: bytes are missing in that record, and none in the message
     let ill_formed = [
         0x80, 1, 0, 2, 0, 0, 0x80, 4, 0, 3, 0, 0x0F, 0, 0x80, 0, 0, 0,
     ];
-    exchange("a record that is ill-formed", &ill_formed, Then::Waits)?;
+    exchange(
+        "a record that is ill-formed",
+        &ill_formed,
+        Then::Waits,
+        piece,
+    )?;
 
     let request = write_request(&protocols, &algorithms[..1], &nobody, &mut out)?;
-    exchange("no algorithm in common", request, Then::Waits)?;
+    exchange("no algorithm in common", request, Then::Waits, piece)?;
 
     let first = Record::Unknown {
         kind: 16385,
@@ -203,6 +219,7 @@ fn main() -> Outcome<()> {
         "an unknown record with its critical bit set",
         &out[..first + rest],
         Then::Waits,
+        piece,
     )?;
 
     // what the writers refuse

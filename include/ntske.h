@@ -3,8 +3,8 @@
  *
  * The host keeps TLS, keys, ciphers and sockets. The library reads and writes the messages, chooses
  * protocol and algorithm, allocates nothing and keeps nothing. Its functions are those of
- * crates/reading, handing, planning, writing and showing, which are proved to meet their contracts;
- * this header is not, and tests/abi holds it against the source.
+ * crates/reading, feeding, handing, planning, writing and showing, which are proved to meet their
+ * contracts; this header is not, and tests/abi holds it against the source.
  *
  * A server, once a whole request of `len` bytes is in `message`:
  *
@@ -38,15 +38,20 @@
  *     for (size_t i = 0; answer == NTSKE_OK && i < reply.cookies; i++)
  *         ntske_entry(message, len, table, TABLE_LEN, i, &cookie);
  *
+ * A host that takes a message off a line need not know when it is whole: it hands over what comes,
+ * as it comes (see "reading in pieces").
+ *
  * README.md has both as programs, and examples/host.c is a whole host.
  *
  * What a call returns. Every call ends with an answer for every value of its arguments. It returns
  * NTSKE_OK, or one word with the refusal's number in bits 0 to 15, the number beside it in bits 16
  * to 31 (5, 11 and 12 have one) and its place in bits 32 to 63 (those of ntske_read_request and
- * ntske_read_reply have one): ntske_refusal, ntske_beside and ntske_place take it apart,
- * ntske_words says it in words. A call that is refused changes nothing that was lent to it: no
- * struct, no count, no table, no tray, no output. ntske_is_utf8 and ntske_version refuse nothing
- * and return their answer.
+ * ntske_read_reply and of the calls that feed or close have one): ntske_refusal, ntske_beside and
+ * ntske_place take it apart, ntske_words says it in words. A call that is refused changes nothing
+ * that was lent to it: no struct, no count, no table, no tray, no output; of a read in pieces alone
+ * the buffer and the connection may change. ntske_feed_request and ntske_feed_reply may also return
+ * NTSKE_WAITING, which is neither NTSKE_OK nor a refusal. ntske_is_utf8 and ntske_version refuse
+ * nothing and return their answer.
  *
  * What the host owes, since the compiler cannot see it: a pointer is not NULL and is aligned for
  * what it points to, also where the length behind it is 0 (NTSKE_NO_BYTES and NTSKE_NO_NUMBERS are
@@ -98,8 +103,9 @@ static const uint16_t ntske_none[1] = {0};
 #define NTSKE_NO_BYTES ((const uint8_t *)ntske_none)
 #define NTSKE_NO_NUMBERS ntske_none
 
-/* What a call returns that refuses nothing. */
+/* What a call returns that refuses nothing, and what one returns after which the read waits. */
 #define NTSKE_OK 0
+#define NTSKE_WAITING 65535
 
 /* The refusals, by their numbers. */
 enum ntske_refusals {
@@ -117,7 +123,8 @@ enum ntske_refusals {
     NTSKE_UNKNOWN_WARNING = 12,
     NTSKE_NO_OVERLAPPING_PROTOCOL = 13,
     NTSKE_NO_OVERLAPPING_ALGORITHM = 14,
-    NTSKE_NO_COOKIE = 15
+    NTSKE_NO_COOKIE = 15,
+    NTSKE_BUFFER_FULL = 16
 };
 
 /* Kinds of records: RFC 8915, section 4.1, and from 8 on those that the library knows besides. */
@@ -264,6 +271,25 @@ struct ntske_plan {
     size_t used;                      /* how many bytes of the tray of cookies are used */
 };
 
+/*
+ * A read in pieces, one for each line; made by ntske_connection_new. It is the host's to keep and
+ * to copy, and only the library changes it: it is lent to the next call as the last one left it.
+ * One that is made or changed by hand is judged: 9 where `limit` or `met` is above 65,535, `state`
+ * above 2, `number` (of state 2) none of 1 to 16, `beside` above 65,535 or not 0 where that number
+ * has none, `place` above 4,294,967,295, or one of these three not 0 in another state. Any other
+ * numbers have a determined answer.
+ */
+struct ntske_connection {
+    size_t limit;                     /* after how many bytes the message is cut */
+    size_t gathered;                  /* how many bytes the front of the buffer holds */
+    size_t begins;                    /* where the record that is being gathered begins */
+    size_t met;                       /* the kinds before it, a bit each; 11 for unknown ones */
+    size_t state;                     /* 0: no answer yet; 1: accepted; 2: refused */
+    size_t number;                    /* of a refusal; otherwise these three are 0 */
+    size_t beside;
+    size_t place;
+};
+
 #define NTSKE_CELL(type, field, i) \
     NTSKE_ASSERT(offsetof(struct type, field) == (i) * sizeof(size_t), #type ", " #field)
 #define NTSKE_CELLS(type, n) NTSKE_ASSERT(sizeof(struct type) == (n) * sizeof(size_t), #type)
@@ -319,13 +345,22 @@ NTSKE_CELL(ntske_plan, has_name, 4);
 NTSKE_CELL(ntske_plan, name_len, 5);
 NTSKE_CELL(ntske_plan, keep_alive, 6);
 NTSKE_CELL(ntske_plan, used, 7);
+NTSKE_CELLS(ntske_connection, 8);
+NTSKE_CELL(ntske_connection, limit, 0);
+NTSKE_CELL(ntske_connection, gathered, 1);
+NTSKE_CELL(ntske_connection, begins, 2);
+NTSKE_CELL(ntske_connection, met, 3);
+NTSKE_CELL(ntske_connection, state, 4);
+NTSKE_CELL(ntske_connection, number, 5);
+NTSKE_CELL(ntske_connection, beside, 6);
+NTSKE_CELL(ntske_connection, place, 7);
 #undef NTSKE_CELL
 #undef NTSKE_CELLS
 #undef NTSKE_ASSERT
 
 /* ---- what a call returned -------------------------------------------------------------------- */
 
-/* The refusal's number, and 0 for none. */
+/* The refusal's number, and 0 for none. NTSKE_WAITING is to be told apart before. */
 static inline unsigned ntske_refusal(uint64_t answer) { return (unsigned)(answer & 0xFFFF); }
 
 /* Whether a number is beside it: the algorithm of 5, the code of 11 and 12. */
@@ -339,12 +374,13 @@ static inline int ntske_has_beside(uint64_t answer)
 static inline unsigned ntske_beside(uint64_t answer) { return (unsigned)(answer >> 16 & 0xFFFF); }
 
 /*
- * Of a refusal of ntske_read_request and ntske_read_reply the place of the first byte of the record
- * concerned, which is the end record where it is decided after the end. Otherwise 0.
+ * Of a refusal of a request's or a reply's reader, whole or in pieces, the place of the first byte
+ * of the record concerned, which is the end record where it is decided after the end; of 16 the
+ * place of the byte that has no room. Otherwise 0.
  */
 static inline unsigned long ntske_place(uint64_t answer) { return (unsigned long)(answer >> 32); }
 
-/* The refusal in words, without the number beside it and the place. */
+/* What a call returned, in words, without the number beside it and the place. */
 static inline const char *ntske_words(uint64_t answer)
 {
     static const char *const words[] = {
@@ -357,23 +393,26 @@ static inline const char *ntske_words(uint64_t answer)
         "a key half has the wrong length",
         "more names or cookies than the table or the plan holds",
         "a body to write is longer than 65,535 bytes",
-        "the value is no record, plan or tray",
+        "the value is no record, plan, tray or connection",
         "the output is too short",
         "the reply has an error record",
         "the reply has a warning record",
         "no protocol in common",
         "no algorithm in common",
         "no cookie",
+        "the buffer has no room for a byte that the read needs",
     };
     unsigned n = ntske_refusal(answer);
+    if (answer == NTSKE_WAITING)
+        return "the read waits for more bytes";
     return n < sizeof words / sizeof *words ? words[n] : "a refusal that this header does not know";
 }
 
 /*
  * The code of the error record with which a server answers a request that was refused so: 0 for 3;
- * 1 for what is the client's fault (1, 2, 4, 5, 6); 2 for what is the server's own (7, since its
- * table is too small, and any other number, 0 too). The replies to 13 and 14 are no errors: they
- * are those of ntske_write_no_protocol and ntske_write_no_algorithm.
+ * 1 for what is the client's fault (1, 2, 4, 5, 6); 2 for what is the server's own (7 and 16, since
+ * its table or its buffer is too small, and any other number, 0 too). The replies to 13 and 14 are
+ * no errors: they are those of ntske_write_no_protocol and ntske_write_no_algorithm.
  */
 static inline uint16_t ntske_error_code(uint64_t answer)
 {
@@ -416,8 +455,7 @@ uint64_t ntske_version(void);
  * message's order; cells past the last one stay as they are.
  *
  * 1 does not say that more bytes would help, nor another number that they would not. So a host that
- * takes a message off a stream looks for its end record by the headers, as examples/host.c does,
- * and then has it read.
+ * takes a message off a line does not call these again and again: it reads in pieces.
  */
 
 /*
@@ -452,6 +490,66 @@ uint64_t ntske_is_utf8(const uint8_t *bytes, size_t bytes_len);
  */
 uint64_t ntske_list(const uint8_t *message, size_t message_len, uint16_t limit, size_t room,
                     uint8_t *out, size_t out_len, size_t *written);
+
+/* ---- reading in pieces ------------------------------------------------------------------------
+ *
+ * A read that is fed as the line delivers:
+ *
+ *     struct ntske_connection line;
+ *     ntske_connection_new(NTSKE_LIMIT, &line);
+ *     do {
+ *         got = ..                             (take bytes off the line: none where it closed)
+ *         if (got > 0)
+ *             answer = ntske_feed_request(&line, piece, got, buffer, BUFFER_LEN, table, TABLE_LEN,
+ *                                         &request);
+ *         else
+ *             answer = ntske_close_request(&line, buffer, BUFFER_LEN, table, TABLE_LEN, &request);
+ *     } while (answer == NTSKE_WAITING);
+ *
+ * The host keeps a connection and a buffer for each line, and lends both to the next call as the
+ * last one left them; the table and the piece may be others each time. A piece may have any length,
+ * 0 too, and need not be kept: what is needed of it is copied behind what the buffer holds.
+ *
+ * A record is judged when it stands whole, or when the limit or the close cuts it, and not before.
+ * Until one decides, a call returns NTSKE_WAITING. The answer, unless it is 16, is that of
+ * ntske_read_request or ntske_read_reply on all pieces joined, with the table that is lent to the
+ * call which answers; its parts lie in the buffer. Where it is accepted, the message is the first
+ * `gathered` bytes of the buffer, which are the joined bytes through the end record.
+ *
+ * A call that feeds or closes may change buffer and connection also where it waits or is refused.
+ * The buffer then begins with the joined bytes, through the record that decides or until it is
+ * full, and no byte behind them changes. The table and `answer` change only where a call is
+ * accepted. Once there is an answer, every later call gives it again and changes nothing but
+ * `answer`: an accepted one whatever the table is that is lent then, which it does not fill again;
+ * a refusal also where a larger table or buffer is lent.
+ *
+ * Besides those of the reader there are two refusals. 16: a byte has come that the read needs, and
+ * the buffer has no room for it; its place is that byte's, the buffer's length. With a buffer as
+ * long as the limit there is none. 9, first of all and changing nothing: the cells are no
+ * connection, or one that counts more bytes than the buffer has or the limit allows. That a line
+ * which began as a request's is not fed on as a reply's is the host's affair.
+ */
+
+/* A read of a message that is cut after `limit` bytes. Refuses nothing. */
+uint64_t ntske_connection_new(uint16_t limit, struct ntske_connection *connection);
+
+/*
+ * A piece of a request, and the close of its line, after which the read waits no more. Refusals: 9
+ * (its place is 0), 1 to 7 and 16, at a place; and the one that the connection holds.
+ */
+uint64_t ntske_feed_request(struct ntske_connection *connection, const uint8_t *piece,
+                            size_t piece_len, uint8_t *buffer, size_t buffer_len, uint16_t *table,
+                            size_t table_len, struct ntske_request *answer);
+uint64_t ntske_close_request(struct ntske_connection *connection, uint8_t *buffer,
+                             size_t buffer_len, uint16_t *table, size_t table_len,
+                             struct ntske_request *answer);
+
+/* The same of a reply. Refusals: 9, 1 to 4, 7, 11 to 15 and 16; and the one that it holds. */
+uint64_t ntske_feed_reply(struct ntske_connection *connection, const uint8_t *piece,
+                          size_t piece_len, uint8_t *buffer, size_t buffer_len, uint16_t *table,
+                          size_t table_len, struct ntske_reply *answer);
+uint64_t ntske_close_reply(struct ntske_connection *connection, uint8_t *buffer, size_t buffer_len,
+                           uint16_t *table, size_t table_len, struct ntske_reply *answer);
 
 /* ---- handing out ------------------------------------------------------------------------------
  *

@@ -11,12 +11,12 @@ const BATCH: Duration = Duration::from_micros(500);
 const BATCHES: usize = 600;
 
 /// How many rows there are.
-const ROWS: usize = 9;
+const ROWS: usize = 12;
 
 /// Ends the run where the two sides' answers differ.
-pub fn same<T: PartialEq + Debug>(name: &str, ours: T, crates: T) {
-    if ours != crates {
-        let mut told = format!("bench {name}: the answers differ: ours {ours:?} crate {crates:?}");
+pub fn same<T: PartialEq + Debug>(name: &str, ours: T, others: T) {
+    if ours != others {
+        let mut told = format!("bench {name}: the answers differ: ours {ours:?} the other {others:?}");
         told.truncate(2000);
         println!("{told}");
         std::process::exit(1);
@@ -25,19 +25,47 @@ pub fn same<T: PartialEq + Debug>(name: &str, ours: T, crates: T) {
 
 /// Prints a line: what each side takes, the bar, and the crate's time over ours. Where the program has arguments, only for
 /// the rows that they name.
-pub fn row(name: &str, bar: f64, mut ours: impl FnMut(), mut crates: impl FnMut()) {
+pub fn row(name: &str, bar: f64, ours: impl FnMut(), crates: impl FnMut()) {
+    if let Some((ours, crates)) = in_turn(name, ours, crates) {
+        println!("bench {name} ours {ours:.1} crate {crates:.1} bar {bar} ratio {:.2}", crates / ours);
+    }
+}
+
+/// A line of a read in pieces, beside the whole-message reader of the library on the same bytes. There is a bar where
+/// one is asked for.
+pub fn row_whole(name: &str, bar: &str, ours: impl FnMut(), whole: impl FnMut()) {
+    if let Some((ours, whole)) = in_turn(name, ours, whole) {
+        println!("bench {name} ours {ours:.1} whole {whole:.1} bar {bar} ratio {:.2}", whole / ours);
+    }
+}
+
+/// A line that holds what a byte costs in a long message against a byte of a short one: their lengths, and how many times
+/// as much it may cost.
+pub fn row_bytes(name: &str, most: f64, lengths: [usize; 2], long: impl FnMut(), short: impl FnMut()) {
+    if let Some((long, short)) = in_turn(name, long, short) {
+        let [of_long, of_short] = [long / lengths[0] as f64, short / lengths[1] as f64];
+        let [long, short] = lengths;
+        println!(
+            "bench {name} a byte of {long} {of_long:.2} a byte of {short} {of_short:.2} most {most} times {:.2}",
+            of_long / of_short
+        );
+    }
+}
+
+/// The least times of two sides, in turn; none where the program has arguments and they do not name the row.
+fn in_turn(name: &str, mut one: impl FnMut(), mut other: impl FnMut()) -> Option<(f64, f64)> {
     if std::env::args().count() > 1 && std::env::args().skip(1).all(|asked| asked != name) {
-        return;
+        return None;
     }
     let line = timing(name);
-    let (our_calls, crate_calls) = (calls(&mut ours), calls(&mut crates));
-    let (mut our_least, mut crate_least) = (f64::INFINITY, f64::INFINITY);
+    let (one_calls, other_calls) = (calls(&mut one), calls(&mut other));
+    let (mut one_least, mut other_least) = (f64::INFINITY, f64::INFINITY);
     for _ in 0..BATCHES {
-        our_least = our_least.min(batch(our_calls, &mut ours));
-        crate_least = crate_least.min(batch(crate_calls, &mut crates));
+        one_least = one_least.min(batch(one_calls, &mut one));
+        other_least = other_least.min(batch(other_calls, &mut other));
     }
     drop(line);
-    println!("bench {name} ours {our_least:.1} crate {crate_least:.1} bar {bar} ratio {:.2}", crate_least / our_least);
+    Some((one_least, other_least))
 }
 
 /// What is being timed, on standard error: on a terminal a line that is taken away when it has been, otherwise a plain one.

@@ -15,6 +15,16 @@ pub fn print() {
         let each = time / (names + 3) as f64;
         println!("growth request names {names} bytes {} ns {time:.0} a record {each:.1}", message.len());
     }
+    let (mut line, mut buffer) = ([0; 8], vec![0; inputs::request(inputs::MOST_NAMES).len()]);
+    for names in [0, 1, 10, 150, 500, 1000, 2000] {
+        let message = inputs::request(names);
+        let time = clock::least(|| {
+            let message = black_box(&message);
+            black_box(ours::feed_request(message, 1, &mut line, &mut buffer, &mut table, &mut answers));
+        });
+        let each = time / message.len() as f64;
+        println!("growth pieces of one byte names {names} bytes {} ns {time:.0} a byte {each:.2}", message.len());
+    }
     let text = inputs::ascii();
     for size in [64, 1024, 8192, 65535] {
         let time = clock::least(|| {

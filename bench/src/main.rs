@@ -29,6 +29,7 @@ fn main() {
     }
     println!("# the least time of many batches, in nanoseconds a call; nothing that is lent is cleared between calls");
     requests();
+    pieces();
     replies();
     records();
     names();
@@ -61,6 +62,45 @@ fn requests() {
             },
         );
     }
+}
+
+/// A request in pieces, beside the library's own reader of the whole: 150 names byte by byte, and 2,000 as a network hands
+/// them over. Then what a byte costs where so many come one by one.
+fn pieces() {
+    let (short, long) = (inputs::request(150), inputs::request(2000));
+    let (mut table, mut other) = (vec![0; 2 * inputs::MOST_NAMES], vec![0; 2 * inputs::MOST_NAMES]);
+    let (mut answers, mut others) = (ours::Answers::default(), ours::Answers::default());
+    let (mut line, mut buffer) = ([0; 8], vec![0; long.len()]);
+    for (name, message, piece, bar) in [("pieces1", &short, 1, "none"), ("pieces1400", &long, 1400, "0.5")] {
+        for cut in inputs::cuts(message) {
+            clock::same(name, ours::in_pieces(cut, piece, table.clone()), ours::whole(cut, table.clone()));
+        }
+        clock::row_whole(
+            name,
+            bar,
+            || {
+                let message = black_box(message);
+                black_box(ours::feed_request(message, piece, &mut line, &mut buffer, &mut table, &mut answers));
+            },
+            || {
+                black_box(ours::read_request(black_box(message), &mut other, &mut others));
+            },
+        );
+    }
+    let (mut line2, mut buffer2) = ([0; 8], vec![0; short.len()]);
+    clock::row_bytes(
+        "bytewise",
+        1.5,
+        [long.len(), short.len()],
+        || {
+            let message = black_box(&long);
+            black_box(ours::feed_request(message, 1, &mut line, &mut buffer, &mut table, &mut answers));
+        },
+        || {
+            let message = black_box(&short);
+            black_box(ours::feed_request(message, 1, &mut line2, &mut buffer2, &mut other, &mut others));
+        },
+    );
 }
 
 /// A reply with eight cookies of 100 bytes, read and written.

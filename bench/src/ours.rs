@@ -1,6 +1,6 @@
 //! The library's calls, by the package bindings/rust: its layer of one function a call, over slices and arrays.
 
-use ntske::raw::{self, Count, PlanCells, ReadCells, ReplyCells, RequestCells};
+use ntske::raw::{self, ConnectionCells, Count, PlanCells, ReadCells, ReplyCells, RequestCells};
 
 const LARGEST_LIMIT: u16 = ntske::LIMIT;
 
@@ -16,6 +16,22 @@ pub struct Answers {
 
 pub fn read_request(message: &[u8], table: &mut [u16], answers: &mut Answers) -> u64 {
     raw::read_request(message, LARGEST_LIMIT, table, &mut answers.request)
+}
+
+/// A request in pieces of so many bytes, one call each; 65,535 where the read still waits behind the last.
+pub fn feed_request(
+    message: &[u8],
+    piece: usize,
+    line: &mut ConnectionCells,
+    buffer: &mut [u8],
+    table: &mut [u16],
+    answers: &mut Answers,
+) -> u64 {
+    let mut word = raw::connection_new(LARGEST_LIMIT, line);
+    for piece in message.chunks(piece) {
+        word = raw::feed_request(line, piece, buffer, table, &mut answers.request);
+    }
+    word
 }
 
 pub fn read_reply(message: &[u8], table: &mut [u16], answers: &mut Answers) -> u64 {
@@ -43,6 +59,31 @@ pub fn copy_record(message: &[u8], out: &mut [u8], answers: &mut Answers, writte
 
 pub fn is_utf8(text: &[u8]) -> bool {
     raw::is_utf8(text) == 1
+}
+
+/// What comes of a request that is read whole: the word, the cells and the table.
+pub fn whole(message: &[u8], mut table: Vec<u16>) -> (u64, RequestCells, Vec<u16>) {
+    let mut answers = Answers::default();
+    let word = read_request(message, &mut table, &mut answers);
+    (word, answers.request, table)
+}
+
+/// What comes of it in pieces, and then the close of the line where the read still waits. The buffer begins with what was
+/// gathered.
+pub fn in_pieces(message: &[u8], piece: usize, mut table: Vec<u16>) -> (u64, RequestCells, Vec<u16>) {
+    let (mut answers, mut buffer, mut line) = (Answers::default(), vec![0; message.len() + 1], [0; 8]);
+    let mut word = raw::WAITING;
+    if !message.is_empty() {
+        word = feed_request(message, piece, &mut line, &mut buffer, &mut table, &mut answers);
+    } else {
+        raw::connection_new(LARGEST_LIMIT, &mut line);
+    }
+    if word == raw::WAITING {
+        word = raw::close_request(&mut line, &mut buffer, &mut table, &mut answers.request);
+    }
+    let gathered = line[1];
+    assert_eq!(buffer[..gathered], message[..gathered], "the buffer begins with the message");
+    (word, answers.request, table)
 }
 
 /// What a key-exchange request or a reply holds: protocols, algorithms, and names or cookies.

@@ -6,6 +6,7 @@ mod messages;
 mod names;
 mod orders;
 pub mod payloads;
+mod pieces;
 mod plans;
 mod records;
 mod replies;
@@ -40,6 +41,7 @@ pub fn corpus(name: &str, seed: u64, count: Option<u64>, out: &mut impl Write) -
         "sample-requests" => samples::requests(out)?,
         "sample-replies" => samples::replies(out)?,
         "sample-choosing" => samples::choosing(out)?,
+        "sample-pieces" => samples::pieces(out)?,
         "words" => words::every(seed, out)?,
         "names" => names::boundaries(out)?,
         "names3" => names::of_three(out)?,
@@ -54,6 +56,8 @@ pub fn corpus(name: &str, seed: u64, count: Option<u64>, out: &mut impl Write) -
             messages::messages(&REPLIES, seed, count.unwrap_or(2_300_000), out)?;
         }
         "orders" => orders::orders(&[REQUESTS, REPLIES], seed, count.unwrap_or(20_000), out)?,
+        "pieces" => pieces::pieces(&[REQUESTS, REPLIES], seed, count.unwrap_or(50_000), out)?,
+        "pieces-tokens" => pieces::pieces_of_tokens(&[REQUESTS, REPLIES], seed, out)?,
         "choosing" => choosing::choosing(seed, count.unwrap_or(400_000), out)?,
         "writes" => writes::writes(seed, count.unwrap_or(200_000), out)?,
         _ => return Err(io::Error::other(format!("no corpus is named {name}"))),

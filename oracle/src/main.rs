@@ -20,7 +20,9 @@ mod nts {
 
     pub mod answer;
     pub mod choosing;
+    mod feeding;
     pub mod lines;
+    pub mod pieces;
     pub mod plans;
     mod poll;
     mod reading;

@@ -4,19 +4,25 @@ use std::collections::BTreeMap;
 
 use crate::nts::choosing::{self, NOT_THE_CRATES, NOT_THE_SERVERS, ODD_ALGORITHMS, ODD_PROTOCOLS};
 use crate::nts::lines::DISAGREES;
+use crate::nts::pieces::{self, A_FULL_BUFFER, A_RECORD, NOTHING, THE_CLOSE, THE_LIMIT};
 use crate::nts::plans::{self, NOT_PLANNED, NOT_UTF8, OTHER_LENGTH};
 use crate::nts::replies::{self, AUTHENTICATION, EMPTY_LIST, MANY_COOKIES, NO_COOKIE};
 use crate::nts::sending;
 use crate::nts::trays::{self, BEYOND, CUT, MANY_FIELDS, OTHER_TAG};
 
 /// The outcomes that can occur, by what the ops do.
-pub const FAMILIES: [(&str, &[&[&str]]); 21] = [
+pub const FAMILIES: [(&str, &[&[&str]]); 26] = [
     ("read", &[&KINDS, &["refused 1", "refused 2"]]),
     ("write", &[&KINDS, &["a part", "refused 8", "refused 10"], &NO_RECORD]),
     ("measure", &[&KINDS, &["refused 8", "refused 9"]]),
     ("request", &[&REQUESTS]),
     ("reply", &[&REPLIES, &READ_BY]),
     ("reply by the copy, for", &[&[EMPTY_LIST, AUTHENTICATION, NO_COOKIE, MANY_COOKIES]]),
+    ("fed request", &[&REQUESTS, &FED]),
+    ("fed request ended by", &[&ENDED_BY]),
+    ("fed reply", &[&REPLIES, &FED, &READ_BY]),
+    ("fed reply ended by", &[&ENDED_BY]),
+    ("fed reply by the copy, for", &[&[EMPTY_LIST, AUTHENTICATION, NO_COOKIE, MANY_COOKIES]]),
     ("choice", &[&["chosen", "refused 13", "refused 14"], &CHOSEN_BY]),
     ("choice refused 9 for", &[&[ODD_PROTOCOLS, ODD_ALGORITHMS]]),
     ("choice by the copy, for", &[&[NOT_THE_SERVERS, NOT_THE_CRATES]]),
@@ -68,6 +74,13 @@ const REPLIES: [&str; 18] = [
     "refused 14",
     "refused 15",
 ];
+/// What only a read that is fed in pieces can tell. Of those with an answer: under the crate's own limit, and those to which
+/// the crate's reader gives it before the record stands whole.
+const FED: [&str; 4] = ["refused 16", "waiting", UNDER_THE_CRATES_LIMIT, JUDGED_EARLY];
+const UNDER_THE_CRATES_LIMIT: &str = "answered under the crate's own limit";
+const JUDGED_EARLY: &str = "judged by the crate before it is whole";
+/// What ended the reading.
+const ENDED_BY: [&str; 5] = [A_RECORD, THE_LIMIT, THE_CLOSE, A_FULL_BUFFER, NOTHING];
 /// Whose line a reply's is: that of the crate's reader as it stands, which the edited copy's is then as well, or the edited
 /// copy's alone.
 const READ_BY: [&str; 2] = ["as the crate reads it", "by the copy with 01's four edits"];
@@ -121,6 +134,9 @@ const NO_RECORD: [&str; 11] = [
 
 /// Adds a case to its outcome's count and, if it is a reply's or a choice, to those of what it was compared with.
 pub fn count(counts: &mut BTreeMap<String, u64>, op: u8, payload: &[u8], line: &[u8]) {
+    if let b'f' | b'F' = op {
+        return count_fed(counts, op, payload, line);
+    }
     let outcome = outcome(op, payload, line);
     let (family, by, difference) = match op {
         b'g' => ("choice", CHOSEN_BY, choosing::difference_of(payload)),
@@ -133,6 +149,36 @@ pub fn count(counts: &mut BTreeMap<String, u64>, op: u8, payload: &[u8], line: &
         add(format!("{family} {}", by[usize::from(difference.is_some())]));
         if let Some(difference) = difference {
             add(format!("{family} by the copy, for {difference}"));
+        }
+    }
+}
+
+/// Adds a read that is fed in pieces to the counts of its outcome, of what ended it and of what it was compared with.
+fn count_fed(counts: &mut BTreeMap<String, u64>, op: u8, payload: &[u8], line: &[u8]) {
+    let mut add = |outcome| *counts.entry(outcome).or_default() += 1;
+    let text = String::from_utf8_lossy(line);
+    let (Some((answer, _)), Some(ended)) = (text.rsplit_once(" held "), pieces::ended(op, payload)) else {
+        return add(outcome(op, payload, line));
+    };
+    let (family, whole) = if op == b'f' { ("request", b'L') } else { ("reply", b'l') };
+    let told = outcome(whole, payload, answer.as_bytes());
+    if told == DISAGREES {
+        return add(told);
+    }
+    add(format!("fed {family} {}", told.strip_prefix(&format!("{family} ")).unwrap_or(&told)));
+    add(format!("fed {family} ended by {}", ended.by));
+    if let A_RECORD | THE_LIMIT | THE_CLOSE = ended.by {
+        if ended.under_the_crates_limit {
+            add(format!("fed {family} {UNDER_THE_CRATES_LIMIT}"));
+        }
+        if ended.judged_early {
+            add(format!("fed {family} {JUDGED_EARLY}"));
+        }
+        if let Some(difference) = replies::difference_of(op, payload) {
+            add(format!("fed {family} {}", READ_BY[usize::from(difference.is_some())]));
+            if let Some(difference) = difference {
+                add(format!("fed {family} by the copy, for {difference}"));
+            }
         }
     }
 }

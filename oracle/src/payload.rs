@@ -1,5 +1,7 @@
 //! Takes a payload apart, field by field. An answer is none where the payload ends too soon or a value is out of its range.
 
+use crate::corpus::{CELLS, LARGEST_LIMIT};
+
 /// The largest room that can be asked for.
 pub const ROOM: usize = 66_000;
 /// The flags of ops n, p and P; each of the three bits may be set.
@@ -36,6 +38,25 @@ impl<'a> Payload<'a> {
     /// A four-byte length that an output or a tray may have.
     pub fn room(&mut self) -> Option<usize> {
         self.length().filter(|&room| room <= ROOM)
+    }
+
+    /// A four-byte limit that a reader may have.
+    pub fn limit(&mut self) -> Option<usize> {
+        self.length().filter(|&limit| limit <= LARGEST_LIMIT)
+    }
+
+    /// The two-byte number of a table's cells.
+    pub fn table(&mut self) -> Option<usize> {
+        Some(usize::from(self.number()?)).filter(|&cells| cells <= CELLS)
+    }
+
+    /// A byte that says yes or no.
+    pub fn yes(&mut self) -> Option<bool> {
+        match self.byte()? {
+            0 => Some(false),
+            1 => Some(true),
+            _ => None,
+        }
     }
 
     /// Which of the three flags are set.

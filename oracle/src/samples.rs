@@ -2,12 +2,14 @@
 
 mod choosing;
 mod named;
+mod pieces;
 mod reading;
 mod replies;
 mod requests;
 mod writing;
 
 pub use choosing::choosing;
+pub use pieces::pieces;
 pub use reading::reading;
 pub use replies::replies;
 pub use requests::requests;

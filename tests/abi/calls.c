@@ -1,8 +1,8 @@
 /*
  * Calls every function of include/ntske.h on good and bad input, and looks at what is returned and at every byte that was lent: what is answered, what is
- * written, and that all else is as it was; on every refusal all is as it was. Each writer is called with an output that is too short, just long enough
- * and longer. All is run twice: with guard bytes around each buffer, and with each buffer at the end of a page that no page follows. The expected bytes
- * are worked out by hand from document 01.
+ * written, and that all else is as it was; on every refusal all is as it was, but for buffer and connection of a read in pieces. Each writer is called with
+ * an output that is too short, just long enough and longer; each message that is fed is cut at every place. All is run twice: with guard bytes around each
+ * buffer, and with each buffer at the end of a page that no page follows. The expected bytes are worked out by hand from document 01.
  * The last line is 'N checks, M failed'; the status is 0 only for M = 0.
  */
 #define _DEFAULT_SOURCE
@@ -15,7 +15,8 @@
 #include <unistd.h>
 
 static unsigned long checks, failed;
-static unsigned seen[16]; /* by refusal */
+enum { REFUSALS = 17 };
+static unsigned seen[REFUSALS]; /* by refusal */
 
 static void check(int holds, const char *what, const char *of, size_t more)
 {
@@ -40,6 +41,7 @@ struct words { size_t n; const uint16_t *p; };
 #define LISTED(...) ((struct ntske_listed){__VA_ARGS__})
 #define CHOICE(...) ((struct ntske_choice){__VA_ARGS__})
 #define PLAN(...) ((struct ntske_plan){__VA_ARGS__})
+#define CONNECTION(...) ((struct ntske_connection){__VA_ARGS__})
 
 /* A reader's refusal: its number, the number beside it, and its place. */
 static uint64_t with(unsigned number, unsigned beside, unsigned long place)
@@ -195,7 +197,7 @@ static void becomes(const void *memory, size_t offset, const void *data, size_t 
 static void after(const char *what, uint64_t got, uint64_t want)
 {
     check(got == want, what, "returned", (size_t)got);
-    if (want != NTSKE_OK && ntske_refusal(want) < 16)
+    if (want != NTSKE_OK && ntske_refusal(want) < REFUSALS)
         seen[ntske_refusal(want)]++;
     for (int i = 0; i < lents; i++) {
         struct lent *x = &lent[i];
@@ -301,6 +303,153 @@ static void utf8(struct bytes x, uint64_t want)
     uint64_t got = ntske_is_utf8(lent_x, x.n);
     check(got == want, "UTF-8", "returned", (size_t)got);
     after("UTF-8", NTSKE_OK, NTSKE_OK);
+}
+
+/* ---- reading in pieces ---- */
+
+enum { ROOM = 256 };
+static const size_t NEVER = SIZE_MAX;
+
+/* Under which limit a message is read, with how many bytes of a buffer and cells of a table. */
+struct under { size_t limit, room, cells; };
+#define UNDER(limit, room, cells) ((struct under){limit, room, cells})
+
+/* How many bytes decide (NEVER where the close does), how many the buffer holds then, and where the record begins that decides (NEVER where none does). */
+struct came { size_t needed, stored, decides; };
+
+static struct came whole(size_t place, size_t end) { return (struct came){end, end, place}; }
+static struct came limited(size_t limit) { return (struct came){limit, limit, NEVER}; }
+static struct came full(size_t room) { return (struct came){room + 1, room, NEVER}; }
+static struct came closed(size_t n) { return (struct came){NEVER, n, NEVER}; }
+
+/* A message that is handed over, and what is to come of it. */
+struct line {
+    const char *what;
+    struct bytes all;
+    struct under under;
+    struct came came;
+    uint64_t want;
+    int is_reply;
+    struct ntske_request request;
+    struct ntske_reply reply;
+    struct words table;
+};
+
+/* What a host keeps of it between two calls. */
+struct kept {
+    struct ntske_connection connection;
+    uint8_t buffer[ROOM];
+    size_t fed;
+    int answered;
+};
+
+/* The connection after so many bytes are gathered: the record that stands last begins behind those that are whole and do not decide. */
+static struct ntske_connection gathered(const struct line *x, size_t n, uint64_t want)
+{
+    struct ntske_connection c = CONNECTION(.limit = x->under.limit, .gathered = n);
+    const uint8_t *p = x->all.p;
+    while (c.begins != x->came.decides && n - c.begins >= 4) {
+        size_t kind = (p[c.begins] & 0x7FU) << 8 | p[c.begins + 1], end = c.begins + 4 + (p[c.begins + 2] << 8 | p[c.begins + 3]);
+        if (end > n)
+            break;
+        c.met |= (size_t)1 << (kind < 15 ? kind : 11);
+        c.begins = end;
+    }
+    if (want == NTSKE_OK)
+        c.state = 1;
+    else if (want != NTSKE_WAITING)
+        c.state = 2, c.number = ntske_refusal(want), c.beside = ntske_beside(want), c.place = ntske_place(want);
+    return c;
+}
+
+/* Calls with a piece, or where there is none, closes. */
+static uint64_t feed(int is_reply, struct ntske_connection *c, const struct bytes *piece, uint8_t *b, size_t room, uint16_t *t, size_t cells, void *a)
+{
+    const uint8_t *p = piece ? lend(piece->p, piece->n) : NULL;
+    if (is_reply)
+        return piece ? ntske_feed_reply(c, p, piece->n, b, room, t, cells, a) : ntske_close_reply(c, b, room, t, cells, a);
+    return piece ? ntske_feed_request(c, p, piece->n, b, room, t, cells, a) : ntske_close_request(c, b, room, t, cells, a);
+}
+
+/* One call: hands over a piece, or closes. A call after the answer changes nothing but the cells of one that is accepted. */
+static void hand(const struct line *x, struct kept *k, const struct bytes *piece, size_t cells)
+{
+    struct ntske_connection *c = lend(&k->connection, sizeof k->connection);
+    uint8_t *b = lend(k->buffer, x->under.room);
+    uint16_t *t = lend(NULL, cells * sizeof(uint16_t));
+    void *a = lend(NULL, x->is_reply ? sizeof x->reply : sizeof x->request);
+    size_t fed = k->fed + (piece ? piece->n : 0);
+    int first = !k->answered && (!piece || fed >= x->came.needed);
+    uint64_t got = feed(x->is_reply, c, piece, b, x->under.room, t, cells, a), want = first || k->answered ? x->want : NTSKE_WAITING;
+
+    if (!k->answered) {
+        size_t n = first ? x->came.stored : fed;
+        k->connection = gathered(x, n, want);
+        if (n)
+            memcpy(k->buffer, x->all.p, n);
+        k->fed = fed;
+    }
+    becomes(c, 0, &k->connection, sizeof k->connection);
+    becomes(b, 0, k->buffer, x->under.room);
+    if (want == NTSKE_OK)
+        becomes(a, 0, x->is_reply ? (const void *)&x->reply : &x->request, x->is_reply ? sizeof x->reply : sizeof x->request);
+    if (want == NTSKE_OK && first)
+        becomes(t, 0, x->table.p, x->table.n * sizeof(uint16_t));
+    k->answered |= first;
+    after(x->what, got, want);
+}
+
+/* The message in pieces that end at `cut` and then every `step` bytes, with as many empty ones behind each; the close, if nothing is decided; and calls after the
+   answer, whatever they are lent. */
+static void in_pieces(const struct line *x, size_t cut, size_t step, int empty)
+{
+    struct kept k = {.connection = CONNECTION(.limit = x->under.limit)};
+    struct bytes none = NO_BYTES, more = H("FFFF00");
+    for (size_t i = 0; i < ROOM; i++)
+        k.buffer[i] = (uint8_t)(0x3C + i);
+    for (size_t at = 0, end = cut; at < x->all.n; at = end, end = x->all.n - at < step ? x->all.n : at + step) {
+        struct bytes piece = {end - at, x->all.p + at};
+        hand(x, &k, &piece, x->under.cells);
+        for (int i = 0; i < empty; i++)
+            hand(x, &k, &none, x->under.cells);
+    }
+    if (!x->all.n)
+        hand(x, &k, &none, x->under.cells);
+    if (!k.answered)
+        hand(x, &k, NULL, x->under.cells);
+    hand(x, &k, &more, 0);
+    hand(x, &k, &none, x->under.cells + 8);
+    hand(x, &k, NULL, 1);
+}
+
+/* However the message is cut. */
+static void fed(const struct line *x)
+{
+    for (size_t cut = 0; cut <= x->all.n; cut++)
+        in_pieces(x, cut, x->all.n, 0);
+    in_pieces(x, x->all.n ? 1 : 0, 1, 0);
+    in_pieces(x, x->all.n ? 1 : 0, 1, 2);
+    in_pieces(x, 0, 3, 1);
+}
+
+static void feeds(const char *what, struct bytes m, struct under under, struct came came, struct ntske_request answer, struct words table)
+{
+    fed(&(struct line){what, m, under, came, .request = answer, .table = table});
+}
+
+static void feeds_refused(const char *what, struct bytes m, struct under under, struct came came, uint64_t want)
+{
+    fed(&(struct line){what, m, under, came, want, .is_reply = 0});
+}
+
+static void feeds_reply(const char *what, struct bytes m, struct under under, struct came came, struct ntske_reply answer, struct words table)
+{
+    fed(&(struct line){what, m, under, came, .is_reply = 1, .reply = answer, .table = table});
+}
+
+static void feeds_reply_refused(const char *what, struct bytes m, struct under under, struct came came, uint64_t want)
+{
+    fed(&(struct line){what, m, under, came, want, .is_reply = 1});
 }
 
 /* ---- choosing ---- */
@@ -654,6 +803,141 @@ static void reading(void)
     utf8(join(times(70000, H("61")), H("C3")), 0);
 }
 
+static void feeding(void)
+{
+    struct bytes m = H("8001 0002 0000 8004 0002 000F 8000 0000"), more = join(m, H("FFFFFFFFFF")), less = {15, m.p};
+    struct under usual = UNDER(NTSKE_LIMIT, 64, 8);
+    struct ntske_request read = key_exchange(PART(4, 2), PART(10, 2), 0);
+    feeds("the request of document 01", m, usual, whole(12, 16), read, NO_WORDS);
+    feeds("bytes behind the end", more, usual, whole(12, 16), read, NO_WORDS);
+    feeds("and a buffer for the message alone", more, UNDER(NTSKE_LIMIT, 16, 8), whole(12, 16), read, NO_WORDS);
+    feeds_refused("a buffer of 15", m, UNDER(NTSKE_LIMIT, 15, 8), full(15), at(16, 15));
+    feeds_refused("a buffer of 12", more, UNDER(NTSKE_LIMIT, 12, 8), full(12), at(16, 12));
+    feeds_refused("a buffer of no bytes", m, UNDER(NTSKE_LIMIT, 0, 8), full(0), at(16, 0));
+    feeds_refused("a buffer of no bytes, closed", NO_BYTES, UNDER(NTSKE_LIMIT, 0, 8), closed(0), at(1, 0));
+    feeds("limit 16", m, UNDER(16, 16, 8), whole(12, 16), read, NO_WORDS);
+    feeds_refused("limit 15", m, UNDER(15, 64, 8), limited(15), at(1, 12));
+    feeds_refused("limit 15, buffer of 15", m, UNDER(15, 15, 8), limited(15), at(1, 12));
+    feeds_refused("limit 15, buffer of 14", m, UNDER(15, 14, 8), full(14), at(16, 14));
+    feeds_refused("limit 12, where a record begins", m, UNDER(12, 12, 8), limited(12), at(1, 12));
+    feeds_refused("limit 0", NO_BYTES, UNDER(0, 64, 8), limited(0), at(1, 0));
+    feeds_refused("limit 0, and bytes", m, UNDER(0, 0, 8), limited(0), at(1, 0));
+    feeds_refused("a byte short", less, usual, closed(15), at(1, 12));
+    feeds_refused("nothing", NO_BYTES, usual, closed(0), at(1, 0));
+    feeds_refused("a character cut by the close", H("8006 0002 C3"), usual, closed(5), at(2, 0));
+    feeds_refused("an unknown critical record", H("800B 0004 00000000 FF"), usual, whole(0, 8), at(3, 0));
+    feeds_refused("a port of three bytes", H("8007 0003 007B00"), usual, whole(0, 7), at(2, 0));
+    feeds_refused("the same under limit 6", H("8007 0003 007B00"), UNDER(6, 64, 8), limited(6), at(2, 0));
+    feeds_refused("the same, closed", H("8007 0003 007B"), usual, closed(6), at(2, 0));
+    feeds_refused("a second list", H("7FFF 0001 AA 8001 0000 8001 0000 8000 0000"), usual, whole(9, 13), at(4, 9));
+    feeds_refused("an end alone", H("8000 0000"), usual, whole(0, 4), at(4, 0));
+    feeds_refused("an end with a body", H("8000 0002 FFFF"), usual, whole(0, 6), at(4, 0));
+
+    struct bytes character = H("8001 0002 0000 8004 0002 000F 000D 0002 C3A9 8000 0000");
+    struct bytes names = H("8001 0002 0000 8004 0002 000F 000D 0003 612E62 000D 0001 63 8000 0000");
+    feeds("a name of one character", character, usual, whole(18, 22), key_exchange(PART(4, 2), PART(10, 2), 1), WORDS(16, 2));
+    feeds("two names", names, usual, whole(24, 28), key_exchange(PART(4, 2), PART(10, 2), 2), WORDS(16, 3, 23, 1));
+    feeds_refused("two names, room for one", names, UNDER(NTSKE_LIMIT, 64, 2), whole(24, 28), at(7, 24));
+    feeds_refused("two names, no cell", names, UNDER(NTSKE_LIMIT, 64, 0), whole(24, 28), at(7, 24));
+
+    struct bytes keys = join(join(H("800C 0040"), times(64, H("5A"))), H("000E 0002 4142 0008 0000 8000 0000"));
+    struct bytes right = join(H("8001 0002 1234 8004 0002 000F"), keys), other = join(H("8001 0002 1234 8004 0002 0010"), keys);
+    struct bytes longer = join(H("8001 0002 1234 8004 0002 0011"), keys);
+    struct under large = UNDER(NTSKE_LIMIT, ROOM, 8);
+    feeds("fixed keys", right, large, whole(90, 94), fixed_key(PART(84, 2), PART(16, 32), PART(48, 32), 15, 0x1234), NO_WORDS);
+    feeds_refused("fixed keys of another algorithm", other, large, whole(90, 94), with(5, 16, 90));
+    feeds_refused("fixed keys of the other length", longer, large, whole(90, 94), at(6, 90));
+    feeds("a support request", H("8009 0000 000E 0000 8000 0000"), UNDER(NTSKE_LIMIT, 64, 0), whole(8, 12), support(PART(8, 0), 1, 0, 0), NO_WORDS);
+
+    struct bytes r = H("8001 0002 0000 8004 0002 000F 0005 0004 DEADBEEF 8000 0000");
+    struct ntske_reply one = REPLY(.algorithm = 15, .cookies = 1);
+    feeds_reply("a reply", join(r, H("FF")), usual, whole(20, 24), one, WORDS(16, 4));
+    feeds_reply_refused("a reply, one cell", r, UNDER(NTSKE_LIMIT, 64, 1), whole(20, 24), at(7, 20));
+    feeds_reply_refused("a reply, buffer of 23", r, UNDER(NTSKE_LIMIT, 23, 8), full(23), at(16, 23));
+    feeds_reply_refused("a reply, limit 23", r, UNDER(23, 64, 8), limited(23), at(1, 20));
+    feeds_reply_refused("a reply, a byte short", (struct bytes){23, r.p}, usual, closed(23), at(1, 20));
+    feeds_reply_refused("an error", H("0008 0000 8002 0002 FFFF 8000 0000"), usual, whole(4, 10), with(11, 65535, 4));
+    feeds_reply_refused("a warning", H("8003 0002 0007 8000 0000"), usual, whole(0, 6), with(12, 7, 0));
+    feeds_reply_refused("two protocols", H("8001 0004 00000001"), usual, whole(0, 8), at(4, 0));
+    feeds_reply_refused("no protocol", H("8001 0000 8000 0000"), usual, whole(4, 8), at(13, 4));
+    feeds_reply_refused("no algorithm", H("8001 0002 0000 8004 0000 8000 0000"), usual, whole(10, 14), at(14, 10));
+    feeds_reply_refused("no cookie", m, usual, whole(12, 16), at(15, 12));
+}
+
+/* Cells that no call leaves, and a connection that counts too many bytes: 9, and nothing changes. */
+static void no_connection(const char *what, struct ntske_connection connection, size_t room)
+{
+    struct bytes m = H("8001 0002 0000 8004 0002 000F 8000 0000"), none = NO_BYTES;
+    const struct bytes *pieces[] = {&m, &none, NULL};
+    for (int is_reply = 0; is_reply < 2; is_reply++)
+        for (int i = 0; i < 3; i++) {
+            struct ntske_connection *c = lend(&connection, sizeof connection);
+            uint8_t *b = lend(NULL, room);
+            uint16_t *t = lend(NULL, 8 * sizeof(uint16_t));
+            void *a = lend(NULL, is_reply ? sizeof(struct ntske_reply) : sizeof(struct ntske_request));
+            after(what, feed(is_reply, c, pieces[i], b, room, t, 8, a), at(9, 0));
+        }
+}
+
+static void connections(void)
+{
+    static const uint16_t limits[] = {0, 1, 4096, NTSKE_LIMIT};
+    for (size_t i = 0; i < sizeof limits / sizeof *limits; i++) {
+        struct ntske_connection *c = lend(NULL, sizeof *c), want = CONNECTION(.limit = limits[i]);
+        uint64_t got = ntske_connection_new(limits[i], c);
+        becomes(c, 0, &want, sizeof want);
+        after("a read is started", got, NTSKE_OK);
+    }
+    no_connection("limit 65,536", CONNECTION(.limit = 65536), 64);
+    no_connection("limit SIZE_MAX", CONNECTION(.limit = SIZE_MAX), 64);
+    no_connection("more than the buffer", CONNECTION(.limit = 64, .gathered = 16), 15);
+    no_connection("more than a buffer of no bytes", CONNECTION(.limit = 64, .gathered = 1), 0);
+    no_connection("more than the limit", CONNECTION(.limit = 15, .gathered = 16), 64);
+    no_connection("SIZE_MAX gathered", CONNECTION(.limit = 64, .gathered = SIZE_MAX), 64);
+    no_connection("more than the buffer, accepted", CONNECTION(.limit = 64, .gathered = 16, .state = 1), 15);
+    no_connection("more than the limit, refused", CONNECTION(.limit = 15, .gathered = 16, .state = 2, .number = 1, .place = 12), 64);
+    no_connection("kinds above 65,535", CONNECTION(.limit = 64, .met = 65536), 64);
+    no_connection("state 3", CONNECTION(.limit = 64, .state = 3), 64);
+    no_connection("state SIZE_MAX", CONNECTION(.limit = 64, .state = SIZE_MAX, .number = 1), 64);
+    for (size_t state = 0; state < 2; state++) {
+        no_connection("a number without a refusal", CONNECTION(.limit = 64, .state = state, .number = 1), 64);
+        no_connection("a code without a refusal", CONNECTION(.limit = 64, .state = state, .beside = 1), 64);
+        no_connection("a place without a refusal", CONNECTION(.limit = 64, .state = state, .place = 1), 64);
+    }
+    no_connection("refused with 0", CONNECTION(.limit = 64, .state = 2), 64);
+    no_connection("refused with 17", CONNECTION(.limit = 64, .state = 2, .number = 17), 64);
+    no_connection("refused with SIZE_MAX", CONNECTION(.limit = 64, .state = 2, .number = SIZE_MAX), 64);
+    no_connection("a code above 65,535", CONNECTION(.limit = 64, .state = 2, .number = 11, .beside = 65536), 64);
+    no_connection("a code beside 4", CONNECTION(.limit = 64, .state = 2, .number = 4, .beside = 1), 64);
+    no_connection("a place above 32 bits", CONNECTION(.limit = 64, .state = 2, .number = 1, .place = (size_t)1 << 32), 64);
+
+    /* a refusal that was kept is told again, whatever it is */
+    for (unsigned n = 1; n < REFUSALS; n++) {
+        uint64_t want = ntske_has_beside(n) ? with(n, 65535, 4294967295) : at(n, 4294967295);
+        struct ntske_connection kept = CONNECTION(.limit = 64, .state = 2, .number = n, .beside = ntske_beside(want), .place = ntske_place(want));
+        struct bytes m = H("8001 0000");
+        for (int is_reply = 0; is_reply < 2; is_reply++) {
+            struct ntske_connection *c = lend(&kept, sizeof kept);
+            uint8_t *b = lend(NULL, 64);
+            uint16_t *t = lend(NULL, 8 * sizeof(uint16_t));
+            void *a = lend(NULL, sizeof(struct ntske_request));
+            after("a refusal that was kept", feed(is_reply, c, &m, b, 64, t, 8, a), want);
+        }
+    }
+
+    /* a record that begins past what is gathered counts as one that begins there */
+    struct ntske_connection hand_made = CONNECTION(.limit = 64, .begins = SIZE_MAX), then = CONNECTION(.limit = 64, .gathered = 4, .begins = 4, .met = 2);
+    struct bytes m = H("8001 0000");
+    struct ntske_connection *c = lend(&hand_made, sizeof hand_made);
+    uint8_t *b = lend(NULL, 64);
+    uint16_t *t = lend(NULL, 8 * sizeof(uint16_t));
+    void *a = lend(NULL, sizeof(struct ntske_request));
+    uint64_t got = feed(0, c, &m, b, 64, t, 8, a);
+    becomes(c, 0, &then, sizeof then);
+    becomes(b, 0, m.p, m.n);
+    after("begun past what is gathered", got, NTSKE_WAITING);
+}
+
 static void listing(void)
 {
     struct bytes m = H("8001 0002 0000 8004 0002 000F 8000 0000");
@@ -944,7 +1228,7 @@ static void header(void)
         check(ntske_has_beside(words[i].word) == words[i].has, "a word", "whether a number is beside", i);
     }
 
-    static const char *const said[16] = {
+    static const char *const said[REFUSALS] = {
         "accepted",
         "bytes are missing",
         "a body is ill-formed",
@@ -954,24 +1238,26 @@ static void header(void)
         "a key half has the wrong length",
         "more names or cookies than the table or the plan holds",
         "a body to write is longer than 65,535 bytes",
-        "the value is no record, plan or tray",
+        "the value is no record, plan, tray or connection",
         "the output is too short",
         "the reply has an error record",
         "the reply has a warning record",
         "no protocol in common",
         "no algorithm in common",
         "no cookie",
+        "the buffer has no room for a byte that the read needs",
     };
-    static const uint16_t codes[16] = {2, 1, 1, 0, 1, 1, 1, 2, 2, 2, 2, 2, 2, 2, 2, 2};
-    for (unsigned i = 0; i < 16; i++)
+    static const uint16_t codes[REFUSALS] = {2, 1, 1, 0, 1, 1, 1, 2, 2, 2, 2, 2, 2, 2, 2, 2, 2};
+    for (unsigned i = 0; i < REFUSALS; i++)
         for (unsigned j = 0; j < 2; j++) {
             uint64_t answer = j ? with(i, 65535, 4294967295) : i;
             check(strcmp(ntske_words(answer), said[i]) == 0, "in words", ntske_words(answer), i);
             check(ntske_error_code(answer) == codes[i], "a code", "for the refusal", i);
         }
-    check(strcmp(ntske_words(16), "a refusal that this header does not know") == 0, "in words", ntske_words(16), 16);
-    check(strcmp(ntske_words(65535), ntske_words(16)) == 0, "in words", ntske_words(65535), 65535);
-    check(ntske_error_code(16) == NTSKE_CODE_INTERNAL_SERVER_ERROR, "a code", "for the refusal", 16);
+    check(strcmp(ntske_words(17), "a refusal that this header does not know") == 0, "in words", ntske_words(17), 17);
+    check(strcmp(ntske_words(at(65535, 1)), ntske_words(17)) == 0, "in words", ntske_words(at(65535, 1)), 65535);
+    check(strcmp(ntske_words(NTSKE_WAITING), "the read waits for more bytes") == 0, "in words", ntske_words(NTSKE_WAITING), NTSKE_WAITING);
+    check(ntske_error_code(17) == NTSKE_CODE_INTERNAL_SERVER_ERROR, "a code", "for the refusal", 17);
 
     /* RFC 8915, section 5.1: two bytes of the protocol, two of the algorithm, and 0 for the key from client to server or 1 for the other */
     static const struct { uint16_t protocol, algorithm; int s2c; const char *context; } contexts[] = {
@@ -999,6 +1285,8 @@ int main(void)
     for (at_the_end_of_a_page = 0; at_the_end_of_a_page < 2; at_the_end_of_a_page++) {
         taken = 0;
         reading();
+        feeding();
+        connections();
         listing();
         choosing();
         planning();
@@ -1007,7 +1295,7 @@ int main(void)
         records();
         header();
     }
-    for (size_t i = 1; i < 16; i++)
+    for (size_t i = 1; i < REFUSALS; i++)
         check(seen[i] > 0, "every refusal is seen", "not this one", i);
     printf("%lu checks, %lu failed\n", checks, failed);
     return failed != 0;

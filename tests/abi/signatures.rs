@@ -11,18 +11,23 @@ use std::collections::BTreeMap;
 use std::process::{Command, ExitCode};
 
 /// The crates that have calls of a host.
-const CRATES: [&str; 5] = ["reading", "handing", "planning", "writing", "showing"];
+const CRATES: [&str; 6] = ["reading", "feeding", "handing", "planning", "writing", "showing"];
 
 /// The struct in C of a lent array: the function (of any where there is none), the argument, how many cells, and the struct.
-const STRUCTS: [(&str, &str, usize, &str); 10] = [
+const STRUCTS: [(&str, &str, usize, &str); 15] = [
     ("ntske_read_request", "answer", 10, "ntske_request"),
     ("ntske_read_reply", "answer", 9, "ntske_reply"),
+    ("ntske_feed_request", "answer", 10, "ntske_request"),
+    ("ntske_close_request", "answer", 10, "ntske_request"),
+    ("ntske_feed_reply", "answer", 9, "ntske_reply"),
+    ("ntske_close_reply", "answer", 9, "ntske_reply"),
     ("ntske_read_record", "answer", 8, "ntske_record_read"),
     ("ntske_part", "answer", 2, "ntske_range"),
     ("ntske_entry", "answer", 2, "ntske_range"),
     ("ntske_number", "answer", 3, "ntske_listed"),
     ("ntske_pair", "answer", 3, "ntske_listed"),
     ("ntske_choose", "answer", 2, "ntske_choice"),
+    ("", "connection", 8, "ntske_connection"),
     ("", "plan", 8, "ntske_plan"),
     ("", "item", 7, "ntske_record"),
 ];
@@ -371,7 +376,7 @@ fn numbers(header: &str, read: &impl Fn(&str) -> String) -> Vec<String> {
     let crate_text = |name: &str| read(&format!("crates/{name}/src/lib.rt"));
     let (nts, record, plan) = (crate_text("nts"), crate_text("record"), crate_text("plan"));
     let (reading, writing, cells) = (crate_text("reading"), crate_text("writing"), crate_text("cells"));
-    let handing = crate_text("handing");
+    let (handing, feeding) = (crate_text("handing"), crate_text("feeding"));
     let mut found = vec![];
 
     let error_arms = |function: &str| arms(between(&nts, function, "\n    }\n"), "NtsError::");
@@ -396,7 +401,7 @@ fn numbers(header: &str, read: &impl Fn(&str) -> String) -> Vec<String> {
     let one = |name: &str| of_plan.iter().find(|of| of.0 == name).unwrap_or_else(|| panic!("no Plan::{name}")).1;
     let tags = vec![("COOKIE".to_string(), one("COOKIE")), ("DENIED".to_string(), one("DENIED"))];
     for (name, prefix, ours, least) in [
-        ("ntske_refusals", "NTSKE_", refusals, 15),
+        ("ntske_refusals", "NTSKE_", refusals, 16),
         ("ntske_kinds", "NTSKE_KIND_", kinds, 14),
         ("ntske_sorts", "NTSKE_", sorts, 3),
         ("ntske_protocols", "NTSKE_", constants(&nts, "NextProtocol"), 2),
@@ -420,8 +425,10 @@ fn numbers(header: &str, read: &impl Fn(&str) -> String) -> Vec<String> {
     // each by itself; a limit has sixteen bits, and a listing's output is the program's
     assert!(reading.contains("    limit: u16,\n"), "a limit has sixteen bits");
     let version = number(between(&handing, "const VERSION: u64 = ", ";"));
+    let waiting = number(between(&feeding, "const WAITING: u64 = ", ";"));
     for (name, value) in [
         ("VERSION", version),
+        ("WAITING", waiting),
         ("MOST_COOKIES", one("COOKIES")),
         ("FIELD_HEADER", one("FIELD_HEADER")),
         ("LIMIT", u64::from(u16::MAX)),
@@ -437,6 +444,12 @@ fn numbers(header: &str, read: &impl Fn(&str) -> String) -> Vec<String> {
     let of_package = format!("version = \"{}.{}.{}\"\n", version >> 16, version >> 8 & 255, version & 255);
     if !read("bindings/rust/Cargo.toml").contains(&of_package) {
         found.push(format!("bindings/rust/Cargo.toml: not {}", of_package.trim_end()));
+    }
+
+    let of_rust = read("bindings/rust/src/raw.rs");
+    let of_rust = between(&of_rust, "const WAITING: u64 = ", ";");
+    if number(&of_rust.replace('_', "")) != waiting {
+        found.push(format!("bindings/rust/src/raw.rs: WAITING is {of_rust}, and in the source {waiting}"));
     }
 
     // a word taken apart: where each number begins, and which refusals have one beside them
@@ -462,8 +475,8 @@ fn words(header: &str, refusal: &str) -> Vec<String> {
     let table = between(header, "words[] = {", "};");
     let said: Vec<&str> = table.split('"').skip(1).step_by(2).collect();
     let mut found = vec![];
-    if said.len() != 16 {
-        found.push(format!("ntske_words: {} sentences for 0 to 15", said.len()));
+    if said.len() != 17 {
+        found.push(format!("ntske_words: {} sentences for 0 to 16", said.len()));
     }
     let mut rest = refusal;
     for (n, sentence) in said.iter().enumerate().skip(1) {

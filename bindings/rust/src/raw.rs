@@ -26,6 +26,43 @@ extern "C" {
         table_len: usize,
         answer: *mut [usize; 9],
     ) -> u64;
+    fn ntske_connection_new(limit: u16, connection: *mut [usize; 8]) -> u64;
+    fn ntske_feed_request(
+        connection: *mut [usize; 8],
+        piece: *const u8,
+        piece_len: usize,
+        buffer: *mut u8,
+        buffer_len: usize,
+        table: *mut u16,
+        table_len: usize,
+        answer: *mut [usize; 10],
+    ) -> u64;
+    fn ntske_close_request(
+        connection: *mut [usize; 8],
+        buffer: *mut u8,
+        buffer_len: usize,
+        table: *mut u16,
+        table_len: usize,
+        answer: *mut [usize; 10],
+    ) -> u64;
+    fn ntske_feed_reply(
+        connection: *mut [usize; 8],
+        piece: *const u8,
+        piece_len: usize,
+        buffer: *mut u8,
+        buffer_len: usize,
+        table: *mut u16,
+        table_len: usize,
+        answer: *mut [usize; 9],
+    ) -> u64;
+    fn ntske_close_reply(
+        connection: *mut [usize; 8],
+        buffer: *mut u8,
+        buffer_len: usize,
+        table: *mut u16,
+        table_len: usize,
+        answer: *mut [usize; 9],
+    ) -> u64;
     fn ntske_read_record(message: *const u8, message_len: usize, place: usize, answer: *mut [usize; 8]) -> u64;
     fn ntske_is_utf8(bytes: *const u8, bytes_len: usize) -> u64;
     fn ntske_part(message: *const u8, message_len: usize, start: usize, len: usize, answer: *mut [usize; 2]) -> u64;
@@ -179,6 +216,12 @@ pub type RequestCells = [usize; 10];
 /// A reply that was read.
 pub type ReplyCells = [usize; 9];
 
+/// A read in pieces.
+pub type ConnectionCells = [usize; 8];
+
+/// The word of a call after which the read waits: not 0, and no refusal's.
+pub const WAITING: u64 = 65_535;
+
 /// A record that was read, and the place after it.
 pub type ReadCells = [usize; 8];
 
@@ -223,6 +266,64 @@ pub fn read_request(message: &[u8], limit: u16, table: &mut [u16], answer: &mut 
 pub fn read_reply(message: &[u8], limit: u16, table: &mut [u16], answer: &mut ReplyCells) -> u64 {
     // Safety: message and table are slices, answer an array; the last two are borrowed alone.
     unsafe { ntske_read_reply(message.as_ptr(), message.len(), limit, table.as_mut_ptr(), table.len(), answer) }
+}
+
+#[inline]
+pub fn connection_new(limit: u16, connection: &mut ConnectionCells) -> u64 {
+    // Safety: connection is an array that is borrowed alone.
+    unsafe { ntske_connection_new(limit, connection) }
+}
+
+#[inline]
+pub fn feed_request(
+    connection: &mut ConnectionCells,
+    piece: &[u8],
+    buffer: &mut [u8],
+    table: &mut [u16],
+    answer: &mut RequestCells,
+) -> u64 {
+    let (buffer_len, table_len) = (buffer.len(), table.len());
+    let (buffer, table) = (buffer.as_mut_ptr(), table.as_mut_ptr());
+    // Safety: piece, buffer and table are slices, the others arrays; all but the piece are borrowed alone.
+    unsafe { ntske_feed_request(connection, piece.as_ptr(), piece.len(), buffer, buffer_len, table, table_len, answer) }
+}
+
+#[inline]
+pub fn close_request(
+    connection: &mut ConnectionCells,
+    buffer: &mut [u8],
+    table: &mut [u16],
+    answer: &mut RequestCells,
+) -> u64 {
+    let (buffer_len, table_len) = (buffer.len(), table.len());
+    // Safety: buffer and table are slices, the others arrays; all are borrowed alone.
+    unsafe { ntske_close_request(connection, buffer.as_mut_ptr(), buffer_len, table.as_mut_ptr(), table_len, answer) }
+}
+
+#[inline]
+pub fn feed_reply(
+    connection: &mut ConnectionCells,
+    piece: &[u8],
+    buffer: &mut [u8],
+    table: &mut [u16],
+    answer: &mut ReplyCells,
+) -> u64 {
+    let (buffer_len, table_len) = (buffer.len(), table.len());
+    let (buffer, table) = (buffer.as_mut_ptr(), table.as_mut_ptr());
+    // Safety: piece, buffer and table are slices, the others arrays; all but the piece are borrowed alone.
+    unsafe { ntske_feed_reply(connection, piece.as_ptr(), piece.len(), buffer, buffer_len, table, table_len, answer) }
+}
+
+#[inline]
+pub fn close_reply(
+    connection: &mut ConnectionCells,
+    buffer: &mut [u8],
+    table: &mut [u16],
+    answer: &mut ReplyCells,
+) -> u64 {
+    let (buffer_len, table_len) = (buffer.len(), table.len());
+    // Safety: buffer and table are slices, the others arrays; all are borrowed alone.
+    unsafe { ntske_close_reply(connection, buffer.as_mut_ptr(), buffer_len, table.as_mut_ptr(), table_len, answer) }
 }
 
 #[inline]

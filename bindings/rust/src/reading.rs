@@ -74,6 +74,52 @@ pub struct Reply<'m, 't> {
     pub cookies: Cookies<'m, 't>,
 }
 
+impl<'m, 't> Request<'m, 't> {
+    /// The request that cells tell, with the names of a key exchange, of which there are so many.
+    pub(crate) fn told(
+        message: Message<'m>,
+        cells: &raw::RequestCells,
+        names: impl FnOnce(usize) -> Denied<'m, 't>,
+    ) -> Self {
+        let [sort, a, b, c, d, e, f, g, h, i] = *cells;
+        match sort {
+            1 => Request::KeyExchange {
+                protocols: List::new(message.part(a, b)),
+                algorithms: List::new(message.part(c, d)),
+                denied: names(e),
+            },
+            2 => Request::FixedKey {
+                authentication: Authentication::of(message.part(a, b)),
+                c2s: Key::new(message.part(c, d)),
+                s2c: Key::new(message.part(e, f)),
+                algorithm: AeadAlgorithm(g as u16),
+                protocol: NextProtocol(h as u16),
+                keep_alive: i == 1,
+            },
+            3 => Request::Support {
+                authentication: Authentication::of(message.part(a, b)),
+                asked: Asked { protocols: c == 1, algorithms: d == 1, keep_alive: e == 1 },
+            },
+            sort => Request::Unknown { sort },
+        }
+    }
+}
+
+impl<'m, 't> Reply<'m, 't> {
+    /// The reply that cells tell, with the cookies of a table.
+    pub(crate) fn told(message: Message<'m>, cells: &raw::ReplyCells, table: &'t [u16]) -> Self {
+        let [protocol, algorithm, named, start, len, ported, port, keep_alive, cookies] = *cells;
+        Reply {
+            protocol: NextProtocol(protocol as u16),
+            algorithm: AeadAlgorithm(algorithm as u16),
+            server: (named == 1).then(|| Name::of(message.part(start, len))),
+            port: (ported == 1).then_some(port as u16),
+            keep_alive: keep_alive == 1,
+            cookies: Cookies::new(message.bytes(), table, cookies),
+        }
+    }
+}
+
 impl<'m> Message<'m> {
     /// The message that bytes are.
     pub const fn new(bytes: &'m [u8]) -> Self {
@@ -95,7 +141,7 @@ impl<'m> Message<'m> {
     /// it is.
     ///
     /// 1 does not say that more bytes would help, nor another number that they would not. So a host that takes a message
-    /// off a stream looks for its end record by the headers, as examples/host.rs does, and then has it read.
+    /// off a line does not call this again and again: it feeds a [`Connection`](crate::Connection).
     ///
     /// The table cannot be lent again, nor the message be overwritten, while a name of it is in use:
     ///
@@ -110,42 +156,14 @@ impl<'m> Message<'m> {
     pub fn request<'t>(self, limit: u16, table: &'t mut [u16]) -> Result<Request<'m, 't>, Refusal> {
         let mut answer = [0; 10];
         read(raw::read_request(self.0, limit, table, &mut answer))?;
-        let [sort, a, b, c, d, e, f, g, h, i] = answer;
-        Ok(match sort {
-            1 => Request::KeyExchange {
-                protocols: List::new(self.part(a, b)),
-                algorithms: List::new(self.part(c, d)),
-                denied: Denied::new(self.0, table, e),
-            },
-            2 => Request::FixedKey {
-                authentication: Authentication::of(self.part(a, b)),
-                c2s: Key::new(self.part(c, d)),
-                s2c: Key::new(self.part(e, f)),
-                algorithm: AeadAlgorithm(g as u16),
-                protocol: NextProtocol(h as u16),
-                keep_alive: i == 1,
-            },
-            3 => Request::Support {
-                authentication: Authentication::of(self.part(a, b)),
-                asked: Asked { protocols: c == 1, algorithms: d == 1, keep_alive: e == 1 },
-            },
-            sort => Request::Unknown { sort },
-        })
+        Ok(Request::told(self, &answer, |count| Denied::new(self.0, table, count)))
     }
 
     /// Reads a reply in the same way, with two cells of the table for each cookie. Refusals: 1 to 4, 7, 11 to 15.
     pub fn reply<'t>(self, limit: u16, table: &'t mut [u16]) -> Result<Reply<'m, 't>, Refusal> {
         let mut answer = [0; 9];
         read(raw::read_reply(self.0, limit, table, &mut answer))?;
-        let [protocol, algorithm, named, start, len, ported, port, keep_alive, cookies] = answer;
-        Ok(Reply {
-            protocol: NextProtocol(protocol as u16),
-            algorithm: AeadAlgorithm(algorithm as u16),
-            server: (named == 1).then(|| Name::of(self.part(start, len))),
-            port: (ported == 1).then_some(port as u16),
-            keep_alive: keep_alive == 1,
-            cookies: Cookies::new(self.0, table, cookies),
-        })
+        Ok(Reply::told(self, &answer, table))
     }
 
     /// Reads the record at a place, and gives the place after it beside. Refusals: 1 and 2, at the place that was asked

@@ -23,7 +23,7 @@ pub enum Refused {
     TableFull,
     /// 8: a body to write is longer than 65,535 bytes.
     InvalidInput,
-    /// 9: the value is no record, plan or tray.
+    /// 9: the value is no record, plan, tray or connection.
     InvalidValue,
     /// 10: the output is too short.
     OutputTooShort,
@@ -37,6 +37,8 @@ pub enum Refused {
     NoOverlappingAlgorithm,
     /// 15: there is no cookie.
     NoCookie,
+    /// 16: the buffer of a read in pieces has no room for a byte that the read needs.
+    BufferFull,
     /// A number that this package does not know: the archive is of another version.
     Unknown {
         /// The refusal's number.
@@ -47,7 +49,7 @@ pub enum Refused {
 }
 
 impl Refused {
-    /// The refusal's number: 1 to 15, or one that is not known.
+    /// The refusal's number: 1 to 16, or one that is not known.
     pub const fn number(self) -> u16 {
         match self {
             Refused::UnexpectedEof => 1,
@@ -65,6 +67,7 @@ impl Refused {
             Refused::NoOverlappingProtocol => 13,
             Refused::NoOverlappingAlgorithm => 14,
             Refused::NoCookie => 15,
+            Refused::BufferFull => 16,
             Refused::Unknown { number, .. } => number,
         }
     }
@@ -91,20 +94,21 @@ impl Refused {
             Refused::IncorrectSizedKey => "a key half has the wrong length",
             Refused::TableFull => "more names or cookies than the table or the plan holds",
             Refused::InvalidInput => "a body to write is longer than 65,535 bytes",
-            Refused::InvalidValue => "the value is no record, plan or tray",
+            Refused::InvalidValue => "the value is no record, plan, tray or connection",
             Refused::OutputTooShort => "the output is too short",
             Refused::Error(_) => "the reply has an error record",
             Refused::UnknownWarning(_) => "the reply has a warning record",
             Refused::NoOverlappingProtocol => "no protocol in common",
             Refused::NoOverlappingAlgorithm => "no algorithm in common",
             Refused::NoCookie => "no cookie",
+            Refused::BufferFull => "the buffer has no room for a byte that the read needs",
             Refused::Unknown { .. } => "a refusal that this package does not know",
         }
     }
 
     /// The code of the error record with which a server answers a request that was refused so: 0 for 3; 1 for what is
-    /// the client's fault (1, 2, 4, 5, 6); 2 for what is the server's own (7, since its table is too small, and any
-    /// other). The replies to 13 and 14 are no errors: they are those of
+    /// the client's fault (1, 2, 4, 5, 6); 2 for what is the server's own (7 and 16, since its table or its buffer is
+    /// too small, and any other). The replies to 13 and 14 are no errors: they are those of
     /// [`write_no_protocol`](crate::write_no_protocol) and [`write_no_algorithm`](crate::write_no_algorithm).
     pub const fn error_code(self) -> ErrorCode {
         match self {
@@ -136,6 +140,7 @@ impl Refused {
             13 => Refused::NoOverlappingProtocol,
             14 => Refused::NoOverlappingAlgorithm,
             15 => Refused::NoCookie,
+            16 => Refused::BufferFull,
             number => Refused::Unknown { number, beside },
         }
     }
@@ -162,14 +167,15 @@ pub struct Refusal {
     /// Why.
     pub why: Refused,
     /// The place of the record's first byte in the message. It is the end record where the refusal is decided after the
-    /// end.
+    /// end. Of 16 it is the place of the byte that has no room.
     pub place: usize,
 }
 
 impl Refusal {
     /// Takes the word apart that a call of the archive returns: bits 0 to 15 are the refusal's number, 16 to 31 the
     /// number beside it, and 32 to 63 the place. Nothing where the word is 0, which is what a call returns that is
-    /// accepted.
+    /// accepted. 65,535, which a call returns after which a read in pieces waits, is no refusal's word and is to be told
+    /// apart before: here it is [`Refused::Unknown`].
     ///
     /// ```
     /// # use ntske::{ErrorCode, Refusal, Refused};

@@ -310,12 +310,14 @@ impl<'m> Keys<'m> {
 
 hides!(Authentication Cookie Key Keys);
 
-/// What a reader found and noted in the table that was lent to it: both stay borrowed.
+/// What a reader found and noted in the table that was lent to it: both stay borrowed. Where an answer is given again,
+/// the table may be another, and what is no text in it is empty.
 #[derive(Clone, Copy)]
 struct Noted<'m, 't> {
     message: &'m [u8],
     table: &'t [u16],
     count: usize,
+    again: bool,
 }
 
 impl<'m> Noted<'m, '_> {
@@ -325,7 +327,8 @@ impl<'m> Noted<'m, '_> {
         }
         let mut answer = [0; 2];
         raw::entry(self.message, self.table, index, &mut answer);
-        Some(inside(self.message, answer))
+        let entry = inside(self.message, answer);
+        Some(if self.again && !crate::is_utf8(entry) { &[] } else { entry })
     }
 }
 
@@ -338,7 +341,7 @@ macro_rules! entries {
 
         impl<'m, 't> $Entries<'m, 't> {
             pub(crate) fn new(message: &'m [u8], table: &'t [u16], count: usize) -> Self {
-                $Entries(Noted { message, table, count })
+                $Entries(Noted { message, table, count, again: false })
             }
 
             /// How many there are.
@@ -415,6 +418,13 @@ entries! {
     /// The names of [`Denied`], one after the other.
     EachName,
     Name
+}
+
+impl<'m, 't> Denied<'m, 't> {
+    /// Those of an answer that is given again, in whatever table is lent then.
+    pub(crate) fn again(message: &'m [u8], table: &'t [u16], count: usize) -> Self {
+        Denied(Noted { message, table, count, again: true })
+    }
 }
 
 entries! {

@@ -214,6 +214,216 @@ fn a_reply_is_read_or_refused() {
     reply_refused(M, 65535, 2, Refused::NoCookie, 12);
 }
 
+// ---- in pieces
+
+/// What a reader answers, as it is shown.
+type Shown = Result<String, Refusal>;
+
+/// A read that a host feeds, of a request or of a reply, with what it keeps and lends.
+struct Line {
+    is_reply: bool,
+    connection: Connection,
+    buffer: Lent<u8>,
+}
+
+impl Line {
+    fn new(is_reply: bool, limit: u16, room: usize) -> Self {
+        Line { is_reply, connection: Connection::start(limit), buffer: bytes(room) }
+    }
+
+    /// A piece, or where there is none the close. Nothing where the read waits.
+    fn hand(&mut self, piece: Option<&[u8]>, table: &mut [u16]) -> Option<Shown> {
+        let (line, buffer) = (&mut self.connection, self.buffer.memory());
+        match (self.is_reply, piece) {
+            (false, Some(piece)) => fed(line.feed_request(piece, buffer, table)),
+            (false, None) => Some(line.close_request(buffer, table).map(|read| format!("{read:?}"))),
+            (true, Some(piece)) => fed(line.feed_reply(piece, buffer, table)),
+            (true, None) => Some(line.close_reply(buffer, table).map(|read| format!("{read:?}"))),
+        }
+    }
+}
+
+fn fed(answer: Result<Fed<impl Debug>, Refusal>) -> Option<Shown> {
+    match answer {
+        Ok(Fed::Waiting) => None,
+        Ok(Fed::Accepted(read)) => Some(Ok(format!("{read:?}"))),
+        Err(refusal) => Some(Err(refusal)),
+    }
+}
+
+/// What the whole-message reader makes of a message and of the table.
+fn whole(is_reply: bool, message: &[u8], limit: u16, room: usize) -> (Shown, Vec<u16>) {
+    let (mut table, message) = (cells(room), Message::new(message));
+    let answer = if is_reply {
+        message.reply(limit, table.memory()).map(|read| format!("{read:?}"))
+    } else {
+        message.request(limit, table.memory()).map(|read| format!("{read:?}"))
+    };
+    (answer, table.memory().to_vec())
+}
+
+/// Hands over pieces, and then the close where the read still waits; gives the answer and what is in the table. The buffer holds what was gathered
+/// and is otherwise as it was, and once there is an answer, it comes again and nothing changes.
+fn in_pieces(line: &mut Line, pieces: &[&[u8]], room: usize) -> (Shown, Vec<u16>) {
+    let (joined, mut table, mut handed, mut came) = (pieces.concat(), cells(room), 0, None);
+    for piece in pieces {
+        table.holds(0, &[]);
+        came = line.hand(Some(piece), table.memory());
+        handed += piece.len();
+        line.buffer.holds(0, &joined[..line.connection.gathered()]);
+        if came.is_some() {
+            break;
+        }
+        assert_eq!(line.connection.gathered(), handed);
+    }
+    let came = came.or_else(|| line.hand(None, table.memory())).expect("no line waits behind its close");
+    let (kept, filled) = (line.connection, table.memory().to_vec());
+    for piece in [Some(&[0xFF; 5][..]), Some(&[]), None] {
+        assert_eq!(line.hand(piece, table.memory()), Some(came.clone()));
+        assert_eq!(table.memory(), filled);
+        let mut larger = cells(room + 8);
+        let again = line.hand(piece, larger.memory()).expect("an answer");
+        assert_eq!((again.is_ok(), again.err()), (came.is_ok(), came.clone().err()));
+        larger.holds(0, &[]);
+        assert_eq!(line.connection, kept);
+        line.buffer.holds(0, &joined[..kept.gathered()]);
+    }
+    (came, filled)
+}
+
+/// A message cut in each way: in one piece, in two at every place, byte by byte, and with empty pieces between.
+fn cut(message: &[u8]) -> Vec<Vec<&[u8]>> {
+    let mut all: Vec<Vec<&[u8]>> =
+        (0..=message.len()).map(|at| message.split_at(at)).map(|(front, rest)| vec![front, rest]).collect();
+    all.push(vec![message]);
+    all.push(message.chunks(1).collect());
+    all.push(message.chunks(1).flat_map(|byte| [&[], byte, &[]]).collect());
+    all.push(message.chunks(3).collect());
+    all
+}
+
+#[test]
+fn however_a_message_is_cut_its_answer_is_the_whole_readers() {
+    let key = "5A".repeat(32);
+    let messages = [
+        M.to_string(),
+        format!("{M} FFFFFFFFFF"),
+        "8001 0002 0000 8004 0002 000F 000D 0002 C3A9 8000 0000".into(),
+        "8001 0002 0000 8004 0002 000F 000D 0003 612E62 000D 0001 63 8000 0000".into(),
+        format!("8001 0002 1234 8004 0002 000F 800C 0040 {key} {key} 000E 0002 4142 0008 0000 8000 0000"),
+        format!("8001 0002 1234 8004 0002 0010 800C 0040 {key} {key} 000E 0002 4142 0008 0000 8000 0000"),
+        "8009 0000 800A 0000 000E 0001 41 0008 0000 8000 0000".into(),
+        "8001 0002 0000 8004 0002 000F 0005 0004 DEADBEEF 0005 0000 8000 0000".into(),
+        "8001 0002 0000 8004 0002 0011 8006 0003 612E62 8007 0002 007B 0008 0000 0005 0001 AA 8000 0000 80".into(),
+        "0008 0000 8002 0002 FFFF 8000 0000".into(),
+        "8001 0000 8000 0000".into(),
+        "8006 0002 C3".into(),
+        "8007 0003 007B".into(),
+        "800B 0004 00000000".into(),
+        "7FFF 0001 AA 8001 0000 8001 0000".into(),
+        String::new(),
+    ];
+    for message in messages.iter().map(|text| hex(text)) {
+        for is_reply in [false, true] {
+            for limit in [LIMIT, 64, message.len() as u16, (message.len() as u16).saturating_sub(1), 6, 0] {
+                for room in [0, 2, 8] {
+                    let want = whole(is_reply, &message, limit, room);
+                    let mut gathered = vec![];
+                    for pieces in cut(&message) {
+                        let mut line = Line::new(is_reply, limit, 256);
+                        assert_eq!(
+                            in_pieces(&mut line, &pieces, room),
+                            want,
+                            "{pieces:02X?} limit {limit} room {room}"
+                        );
+                        gathered.push(line.connection);
+                    }
+                    assert!(gathered.iter().all(|line| *line == gathered[0]), "{gathered:?}");
+                }
+            }
+        }
+    }
+}
+
+#[test]
+fn a_buffer_that_is_full_is_refused_at_the_byte_that_has_no_room() {
+    let message = hex(&format!("{M} FFFF"));
+    for room in 0..20 {
+        for pieces in cut(&message) {
+            let mut line = Line::new(false, LIMIT, room);
+            let (answer, _) = in_pieces(&mut line, &pieces, 4);
+            match room {
+                16.. => assert_eq!((answer.is_ok(), line.connection.gathered()), (true, 16)),
+                _ => {
+                    let full = Refusal { why: Refused::BufferFull, place: room };
+                    assert_eq!((answer, line.connection.gathered()), (Err(full), room));
+                }
+            }
+        }
+    }
+    // the limit comes before it
+    let mut line = Line::new(false, 12, 12);
+    let missing = Refusal { why: Refused::UnexpectedEof, place: 12 };
+    assert_eq!(line.hand(Some(&message), &mut []), Some(Err(missing)));
+}
+
+#[test]
+fn a_read_waits_until_a_record_stands_whole() {
+    let waits = |text: &str, limit: u16| Line::new(false, limit, 64).hand(Some(&hex(text)), &mut []).is_none();
+    for text in ["", "80", "8007 0003 007B", "8006 0002 C3", "800B 0004 000000", "8002", "8001 0002 0000 8000 00"] {
+        assert!(waits(text, LIMIT), "{text}");
+        assert!(!waits(text, hex(text).len() as u16), "{text}");
+    }
+    assert!(!waits("800B 0004 00000000", LIMIT));
+}
+
+#[test]
+fn a_connection_is_kept_and_copied() {
+    let message = hex(M);
+    let (mut buffer, mut table) = ([0; 64], [0; 8]);
+    let mut line = Connection::start(4096);
+    assert_eq!((line.limit(), line.gathered()), (4096, 0));
+    assert!(matches!(line.feed_request(&message[..7], &mut buffer, &mut table), Ok(Fed::Waiting)));
+    let kept = line;
+    assert_eq!((kept.gathered(), kept == Connection::start(4096)), (7, false));
+    let shown = "Connection { limit: 4096, gathered: 7, begins: 6, met: 2, state: 0, number: 0, beside: 0, place: 0 }";
+    assert_eq!(format!("{kept:?}"), shown);
+
+    // a buffer that is shorter than what was gathered: 9, and nothing changes
+    let no_value = Refusal { why: Refused::InvalidValue, place: 0 };
+    assert_eq!(line.feed_request(&message[7..], &mut buffer[..6], &mut table).unwrap_err(), no_value);
+    assert_eq!(line.close_request(&mut buffer[..6], &mut table).unwrap_err(), no_value);
+    assert_eq!(line.feed_reply(&message[7..], &mut buffer[..6], &mut table).unwrap_err(), no_value);
+    assert_eq!(line.close_reply(&mut buffer[..6], &mut table).unwrap_err(), no_value);
+    assert_eq!(line, kept);
+
+    // two ways on from one state
+    let mut other = kept;
+    assert!(matches!(line.feed_request(&message[7..], &mut buffer, &mut table), Ok(Fed::Accepted(_))));
+    assert_eq!((line.gathered(), &buffer[..16]), (16, &message[..]));
+    assert_eq!(
+        other.close_request(&mut buffer, &mut table).unwrap_err(),
+        Refusal { why: Refused::UnexpectedEof, place: 6 }
+    );
+}
+
+/// An answer that is given again does not fill the table: what another one points to is handed out, and is empty where it is no name.
+#[test]
+fn an_answer_comes_again_with_whatever_table() {
+    let message = hex("8001 0002 0000 8004 0002 000F 000D 0002 C3A9 000D 0001 63 8000 0000");
+    let (mut buffer, mut table) = ([0; 64], [0; 4]);
+    let mut line = Connection::start(LIMIT);
+    let mut names = |line: &mut Connection, table: &mut [u16]| match line.feed_request(&message, &mut buffer, table) {
+        Ok(Fed::Accepted(Request::KeyExchange { denied, .. })) => denied.iter().map(|name| name.to_string()).collect(),
+        other => vec![format!("{other:?}")],
+    };
+    assert_eq!(names(&mut line, &mut table), ["\u{e9}", "c"]);
+    assert_eq!(names(&mut line, &mut table), ["\u{e9}", "c"]);
+    assert_eq!(names(&mut line, &mut []), ["", ""]);
+    assert_eq!(names(&mut line, &mut [16, 1, 17, 1]), ["", ""]);
+    assert_eq!(names(&mut line, &mut [22, 1, 65535, 65535]), ["c", ""]);
+}
+
 #[test]
 fn records_are_read_and_written() {
     let (four, text) = (hex("01020304"), "A\u{80}");
@@ -561,7 +771,7 @@ fn a_request_is_written() {
 }
 
 /// The refusals that the package knows, in the order of their numbers.
-const REFUSALS: [Refused; 15] = [
+const REFUSALS: [Refused; 16] = [
     Refused::UnexpectedEof,
     Refused::InvalidData,
     Refused::UnrecognizedCriticalRecord,
@@ -577,11 +787,12 @@ const REFUSALS: [Refused; 15] = [
     Refused::NoOverlappingProtocol,
     Refused::NoOverlappingAlgorithm,
     Refused::NoCookie,
+    Refused::BufferFull,
 ];
 
 #[test]
 fn each_refusal_has_its_number_and_words() {
-    assert!(REFUSALS.iter().map(|why| why.number()).eq(1..=15));
+    assert!(REFUSALS.iter().map(|why| why.number()).eq(1..=16));
     let beside: Vec<_> = REFUSALS.iter().filter(|why| why.beside() == Some(16)).map(|why| why.number()).collect();
     assert_eq!((beside, REFUSALS.iter().filter_map(|why| why.beside()).count()), (vec![5, 11, 12], 3));
 
@@ -591,7 +802,7 @@ fn each_refusal_has_its_number_and_words() {
     assert_eq!(words[1..], REFUSALS.map(Refused::words));
 
     let codes: Vec<_> = REFUSALS.iter().map(|why| why.error_code().0).collect();
-    assert_eq!(codes, [1, 1, 0, 1, 1, 1, 2, 2, 2, 2, 2, 2, 2, 2, 2]);
+    assert_eq!(codes, [1, 1, 0, 1, 1, 1, 2, 2, 2, 2, 2, 2, 2, 2, 2, 2]);
 
     let refusal = Refusal { why: Refused::Error(ErrorCode(0)), place: 7 };
     assert_eq!(refusal.to_string(), "refused 11 at 7: the reply has an error record, code 0");

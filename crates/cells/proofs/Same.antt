@@ -6,6 +6,7 @@ use denote.Ref.{now}
 use Rattle.cells.proofs.Lent.{gives-same}
 use Rattle.cells.proofs.refused_at.Reads as refused-at
 use Rattle.cells.proofs.refused.Reads as refused
+use Rattle.cells.proofs.beside.Reads as beside
 use Rattle.cells.proofs.give_count.Reads as give-count
 use Rattle.cells.proofs.flag_of.Reads as flag-of
 
@@ -14,6 +15,9 @@ refused-at-same κs a r r′ e e′ p q = p ∙ sym q
 
 pub refused-same : (κs : _) (a : _) (r r′ : _) (e e′ : _) → refused.Learnt κs a r e → refused.Learnt κs a r′ e′ → r ≡ r′
 refused-same κs a r r′ e e′ p q = p ∙ sym q
+
+pub beside-same : (κs : _) (a : _) (r r′ : _) (e e′ : _) → beside.Learnt κs a r e → beside.Learnt κs a r′ e′ → r ≡ r′
+beside-same κs a r r′ e e′ p q = p ∙ sym q
 
 pub give-count-same : (κs : _) (a : _) (r r′ : _) (e e′ : _) → give-count.Learnt κs a r e → give-count.Learnt κs a r′ e′ → (r ≡ r′) × (now (e .1 .0) ≡ now (e′ .1 .0))
 give-count-same κs a r r′ e e′ p q = gives-same p q

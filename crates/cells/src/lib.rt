@@ -27,7 +27,8 @@ pub fn refused(error: NtsError) -> u64
     refused_at(error, 0)
 }
 
-fn beside(error: NtsError) -> u16
+// The number beside a refusal's, 0 for none.
+pub fn beside(error: NtsError) -> u16
     ensures { λ r. ⌜ r ≡ besideNumber (besideOf error) ⌝ }
 {
     let code = error.code();

@@ -1,13 +1,11 @@
 -- What is told of an answer tells any two answers apart: it can be turned back into the answer.
 -- Assumes nothing.
 use mathlib.Core.Path.{_≡_, refl, sym, ap, _∙_}
-use mathlib.Core.Bool.{cond}
 use Prim.Native.Nat.{ℕ}
-use lib.Dec.{eqb}
 use Rattle.nts.specs.Algorithm.{Described, known, unknown, toldDescription}
-use Rattle.nts.specs.Refusal.{numberOf, Beside, nothing, code, besideOf, toldCode, Refused, toldRefusal}
+use Rattle.nts.specs.Refusal.{numberOf, Beside, nothing, code, besideOf, toldCode, Refused, toldRefusal, errorIn}
 use Rattle.nts.specs.declared.NtsError.{NtsError}
-use Rattle.nts.specs.declared.NtsError.the-variants.{UnexpectedEof, InvalidData, UnrecognizedCriticalRecord, Invalid, AeadNotSupported, IncorrectSizedKey, TableFull, InvalidInput, InvalidValue, OutputTooShort, Error, UnknownWarning, NoOverlappingProtocol, NoOverlappingAlgorithm, NoCookie}
+use Rattle.nts.specs.declared.NtsError.the-variants.{UnexpectedEof, InvalidData, UnrecognizedCriticalRecord, Invalid, AeadNotSupported, IncorrectSizedKey, TableFull, InvalidInput, InvalidValue, OutputTooShort, Error, UnknownWarning, NoOverlappingProtocol, NoOverlappingAlgorithm, NoCookie, BufferFull}
 use Rattle.nts.specs.declared.Code.{Code}
 use Rattle.nts.specs.declared.Code.the-variants.{None, Number}
 use Rattle.nts.specs.declared.Description.{Description}
@@ -23,25 +21,10 @@ number-in nothing = 0
 number-in (code n) = n
 
 error-from : Refused → NtsError
-error-from r =
-    cond (eqb (r .number) 1) UnexpectedEof
-    (cond (eqb (r .number) 2) InvalidData
-    (cond (eqb (r .number) 3) UnrecognizedCriticalRecord
-    (cond (eqb (r .number) 4) Invalid
-    (cond (eqb (r .number) 5) (AeadNotSupported (record { 0 = number-in (r .beside) }))
-    (cond (eqb (r .number) 6) IncorrectSizedKey
-    (cond (eqb (r .number) 7) TableFull
-    (cond (eqb (r .number) 8) InvalidInput
-    (cond (eqb (r .number) 9) InvalidValue
-    (cond (eqb (r .number) 10) OutputTooShort
-    (cond (eqb (r .number) 11) (Error (record { 0 = number-in (r .beside) }))
-    (cond (eqb (r .number) 12) (UnknownWarning (record { 0 = number-in (r .beside) }))
-    (cond (eqb (r .number) 13) NoOverlappingProtocol
-    (cond (eqb (r .number) 14) NoOverlappingAlgorithm
-    NoCookie)))))))))))))
+error-from r = errorIn (r .number) (number-in (r .beside))
 
 error-back : (e : NtsError) (p : ℕ) → error-from (record { number = numberOf e; beside = besideOf e; place = p }) ≡ e
-unfolding error-from number-in
+unfolding error-from errorIn number-in
 error-back UnexpectedEof p = refl
 error-back InvalidData p = refl
 error-back UnrecognizedCriticalRecord p = refl
@@ -57,6 +40,7 @@ error-back (UnknownWarning c) p = refl
 error-back NoOverlappingProtocol p = refl
 error-back NoOverlappingAlgorithm p = refl
 error-back NoCookie p = refl
+error-back BufferFull p = refl
 
 pub error-apart : (x y : NtsError) → numberOf x ≡ numberOf y → besideOf x ≡ besideOf y → x ≡ y
 error-apart x y p q = sym (error-back x 0) ∙ (λ j. error-from (record { number = p j; beside = q j; place = 0 })) ∙ error-back y 0

@@ -1,7 +1,9 @@
--- 01, "Numbers a call can refuse with": the number of each refusal, what is returned beside it, and the place of a reading refusal.
+-- 01, "Numbers a call can refuse with", and 02, order 1 (16): the number of each refusal, what is returned beside it, and the place of a reading refusal.
 use Prim.Native.Nat.{ℕ}
+use mathlib.Core.Bool.{cond}
+use lib.Dec.{eqb}
 use Rattle.nts.specs.declared.NtsError.{NtsError}
-use Rattle.nts.specs.declared.NtsError.the-variants.{UnexpectedEof, InvalidData, UnrecognizedCriticalRecord, Invalid, AeadNotSupported, IncorrectSizedKey, TableFull, InvalidInput, InvalidValue, OutputTooShort, Error, UnknownWarning, NoOverlappingProtocol, NoOverlappingAlgorithm, NoCookie}
+use Rattle.nts.specs.declared.NtsError.the-variants.{UnexpectedEof, InvalidData, UnrecognizedCriticalRecord, Invalid, AeadNotSupported, IncorrectSizedKey, TableFull, InvalidInput, InvalidValue, OutputTooShort, Error, UnknownWarning, NoOverlappingProtocol, NoOverlappingAlgorithm, NoCookie, BufferFull}
 use Rattle.nts.specs.declared.Code.{Code}
 use Rattle.nts.specs.declared.Code.the-variants.{None, Number}
 use Rattle.nts.specs.declared.Refusal.{Refusal}
@@ -23,6 +25,7 @@ numberOf (UnknownWarning c) = 12
 numberOf NoOverlappingProtocol = 13
 numberOf NoOverlappingAlgorithm = 14
 numberOf NoCookie = 15
+numberOf BufferFull = 16
 
 -- what is returned beside a number
 pub data Beside : Type 0 where
@@ -46,6 +49,27 @@ besideOf (UnknownWarning c) = code (c .0)
 besideOf NoOverlappingProtocol = nothing
 besideOf NoOverlappingAlgorithm = nothing
 besideOf NoCookie = nothing
+besideOf BufferFull = nothing
+
+-- back from both: the refusal that has a number, with the number beside it
+unfoldable pub errorIn : ℕ → ℕ → NtsError
+errorIn n x =
+    cond (eqb n 1) UnexpectedEof
+    (cond (eqb n 2) InvalidData
+    (cond (eqb n 3) UnrecognizedCriticalRecord
+    (cond (eqb n 4) Invalid
+    (cond (eqb n 5) (AeadNotSupported (record { 0 = x }))
+    (cond (eqb n 6) IncorrectSizedKey
+    (cond (eqb n 7) TableFull
+    (cond (eqb n 8) InvalidInput
+    (cond (eqb n 9) InvalidValue
+    (cond (eqb n 10) OutputTooShort
+    (cond (eqb n 11) (Error (record { 0 = x }))
+    (cond (eqb n 12) (UnknownWarning (record { 0 = x }))
+    (cond (eqb n 13) NoOverlappingProtocol
+    (cond (eqb n 14) NoOverlappingAlgorithm
+    (cond (eqb n 15) NoCookie
+    BufferFull))))))))))))))
 
 -- what each case of the answer says
 abbrev pub toldCode : Code → Beside

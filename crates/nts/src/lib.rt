@@ -87,7 +87,7 @@ pub enum NtsError {
     TableFull,
     // A body to write is longer than 65,535 bytes.
     InvalidInput,
-    // The value is no record, plan or tray.
+    // The value is no record, plan, tray or connection.
     InvalidValue,
     // The output is shorter than what is to be written.
     OutputTooShort,
@@ -101,6 +101,8 @@ pub enum NtsError {
     NoOverlappingAlgorithm,
     // There is no cookie.
     NoCookie,
+    // A byte arrives that a read needs, and the buffer has no room.
+    BufferFull,
 }
 
 // What is returned beside a refusal's number.
@@ -136,6 +138,7 @@ impl NtsError {
             NtsError::NoOverlappingProtocol => 13,
             NtsError::NoOverlappingAlgorithm => 14,
             NtsError::NoCookie => 15,
+            NtsError::BufferFull => 16,
         }
     }
 
@@ -159,6 +162,7 @@ impl NtsError {
             NtsError::NoOverlappingProtocol => Code::None,
             NtsError::NoOverlappingAlgorithm => Code::None,
             NtsError::NoCookie => Code::None,
+            NtsError::BufferFull => Code::None,
         }
     }
 }

@@ -81,9 +81,9 @@ pub(super) fn flag(flags: u8, bit: u8) -> bool {
 }
 
 // Whether some bytes are so many counted ones.
-pub(super) fn are_counted(s: &[u8], count: u8) -> bool {
+pub(super) fn are_counted(s: &[u8], count: u16) -> bool {
     let mut at = 0;
-    let mut i: u8 = 0;
+    let mut i: u16 = 0;
     while i < count {
         at = behind_counted(s, at);
         i += 1;

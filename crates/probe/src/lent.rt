@@ -67,6 +67,29 @@ pub(super) fn are_filled(table: &[u16], from: usize) -> bool {
     true
 }
 
+// Puts the first half of a table into the second.
+pub(super) fn keep(table: &mut [u16]) {
+    let cells = table.len() / 2;
+    let mut i = 0;
+    while i < cells {
+        table[cells + i] = table[i];
+        i += 1;
+    }
+}
+
+// Whether the halves of a table are the same.
+pub(super) fn are_kept(table: &[u16]) -> bool {
+    let cells = table.len() / 2;
+    let mut i = 0;
+    while i < cells {
+        if table[cells + i] != table[i] {
+            return false;
+        }
+        i += 1;
+    }
+    true
+}
+
 pub(super) fn put_changed(out: &mut [u8], at: usize, unchanged: bool) -> usize {
     if unchanged {
         return at;
@@ -102,14 +125,19 @@ fn behind(entries: usize, cells: usize) -> usize {
     cells
 }
 
-// ` CHANGED` where a cell behind those of so many entries is not as it was lent.
+// Whether the cells behind those of so many entries are as they were lent.
+pub(super) fn are_filled_behind(table: &[u16], entries: usize) -> bool {
+    are_filled(table, behind(entries, table.len()))
+}
+
+// ` CHANGED` where one is not.
 pub(super) fn put_changed_behind(
     out: &mut [u8],
     at: usize,
     table: &[u16],
     entries: usize,
 ) -> usize {
-    put_changed(out, at, are_filled(table, behind(entries, table.len())))
+    put_changed(out, at, are_filled_behind(table, entries))
 }
 
 // The bodies that the table points to.
@@ -123,7 +151,7 @@ fn put_bodies(out: &mut [u8], at: usize, message: &[u8], table: &[u16], count: u
     to
 }
 
-// A word, how many entries an accepted message put into the table, and each; ` CHANGED` where another cell is not as it was lent.
+// A word, how many entries an accepted message put into the table, and each.
 pub(super) fn put_entries(
     out: &mut [u8],
     at: usize,
@@ -134,8 +162,7 @@ pub(super) fn put_entries(
 ) -> usize {
     let number = text::put_number(out, at, word, count as u64);
     let blank = text::put(out, number, b' ');
-    let to = put_bodies(out, blank, message, table, count);
-    put_changed_behind(out, to, table, count)
+    put_bodies(out, blank, message, table, count)
 }
 
 // The refusal of a message; ` CHANGED` where a cell is not as it was lent.

@@ -1,9 +1,10 @@
 // Answers a corpus: cases are read from standard input until it ends, and each gets a line.
 mod case;
 mod choosing;
+mod feeding;
 mod lent;
 mod plans;
-mod reading;
+mod records;
 mod replies;
 mod requests;
 mod sending;
@@ -24,7 +25,7 @@ struct Went {
     used: usize,
 }
 
-// The line of one case; what a call writes to is lent by the caller.
+// The line of one case; what a call writes to is lent by the caller, with twice the table's cells.
 fn answer(
     op: u8,
     case: &[u8],
@@ -33,8 +34,12 @@ fn answer(
     out: &mut [u8],
     at: usize,
 ) -> usize {
+    let cells = table.len() / 2;
     match op {
-        b'q' | b'Q' | b'L' | b'y' | b'l' => whole::answer(op, case, table, out, at),
+        b'f' | b'F' => feeding::answer(op, case, dst, table, out, at),
+        b'q' | b'Q' | b'L' | b'y' | b'l' => {
+            whole::answer(op, case, &mut table[0..cells], out, at)
+        }
         b'w' | b'W' | b'X' => writing::answer(op, case, dst, out, at),
         b'n' | b'k' | b'a' | b'p' | b'P' => sent(op, case, dst, out, at),
         _ => read(op, case, out, at),
@@ -55,10 +60,10 @@ fn sent(op: u8, case: &[u8], dst: &mut [u8], out: &mut [u8], at: usize) -> usize
 // .. of an op to which nothing is lent.
 fn read(op: u8, case: &[u8], out: &mut [u8], at: usize) -> usize {
     match op {
-        b'r' => reading::at_front(case, out, at),
-        b'R' => reading::at_place(case, out, at),
-        b'i' => reading::part_of(case, out, at),
-        b'j' => reading::number_of(case, out, at),
+        b'r' => records::at_front(case, out, at),
+        b'R' => records::at_place(case, out, at),
+        b'i' => records::part_of(case, out, at),
+        b'j' => records::number_of(case, out, at),
         b'z' => writing::length_of(case, out, at),
         b'g' => choosing::of_lists(case, out, at),
         _ => text::bad_case(out, at),
@@ -174,7 +179,7 @@ fn run(buf: &mut [u8], dst: &mut [u8], table: &mut [u16], out: &mut [u8]) {
 fn main() {
     let mut buf = [0u8; 66000];
     let mut dst = [0u8; 66000];
-    let mut table = [0u16; 2048];
+    let mut table = [0u16; 4096];
     let mut out = [0u8; 400000];
     run(&mut buf, &mut dst, &mut table, &mut out);
 }

@@ -232,7 +232,7 @@ fn is_counted(sizes: &[u8]) -> bool {
     if sizes.len() < 9 {
         return false;
     }
-    case::are_counted(case::rest(sizes, 9), wire::byte_at(sizes, 8))
+    case::are_counted(case::rest(sizes, 9), wire::byte_at(sizes, 8) as u16)
 }
 
 fn in_tray(case: &[u8], sizes: &[u8], dst: &mut [u8], out: &mut [u8], at: usize) -> usize {

@@ -1,4 +1,4 @@
-// The answer to a reply: ops y and l.
+// The answer to a reply: ops y, l and F.
 use super::lent;
 use super::text;
 use reply::Answer;
@@ -33,7 +33,8 @@ fn put_told(
     text::put_flag(out, port, b" keep-alive ", keep_alive)
 }
 
-fn put_reply(
+// The line of an accepted reply.
+pub(super) fn put_reply(
     out: &mut [u8],
     at: usize,
     message: &[u8],
@@ -64,7 +65,10 @@ pub(super) fn put_answer(
 ) -> usize {
     let answer = KeyExchangeResponse::parse(message, limit, table);
     match answer {
-        Answer::Accepted(reply) => put_reply(out, at, message, table, reply),
+        Answer::Accepted(reply) => {
+            let to = put_reply(out, at, message, table, reply);
+            lent::put_changed_behind(out, to, table, reply.cookies)
+        }
         Answer::Refused(refusal) => lent::put_refused(out, at, table, refusal),
     }
 }

@@ -1,6 +1,6 @@
-// The answer to a request: ops q, Q and L.
+// The answer to a request: ops q, Q, L and f.
 use super::lent;
-use super::reading;
+use super::records;
 use super::text;
 use nts::AeadAlgorithm;
 use nts::NextProtocol;
@@ -19,7 +19,7 @@ fn put_list(
     list: Part,
 ) -> usize {
     let to = text::put_text(out, at, word);
-    reading::put_list(kind, out, to, message, list)
+    records::put_list(kind, out, to, message, list)
 }
 
 fn put_exchange(
@@ -83,7 +83,8 @@ fn put_support(out: &mut [u8], at: usize, m: &[u8], u: Part, p: bool, a: bool, k
     put_asking(out, algorithms, m, u, k)
 }
 
-fn put_request(
+// The line of an accepted request.
+pub(super) fn put_request(
     out: &mut [u8],
     at: usize,
     message: &[u8],
@@ -103,37 +104,39 @@ fn put_request(
             algorithm,
             protocol,
             keep_alive,
-        } => {
-            let to = put_fixed(
-                out,
-                at,
-                message,
-                authentication,
-                c2s,
-                s2c,
-                algorithm,
-                protocol,
-                keep_alive,
-            );
-            lent::put_changed_behind(out, to, table, 0)
-        }
+        } => put_fixed(
+            out,
+            at,
+            message,
+            authentication,
+            c2s,
+            s2c,
+            algorithm,
+            protocol,
+            keep_alive,
+        ),
         Request::Support {
             authentication,
             wants_protocols,
             wants_algorithms,
             keep_alive,
-        } => {
-            let to = put_support(
-                out,
-                at,
-                message,
-                authentication,
-                wants_protocols,
-                wants_algorithms,
-                keep_alive,
-            );
-            lent::put_changed_behind(out, to, table, 0)
-        }
+        } => put_support(
+            out,
+            at,
+            message,
+            authentication,
+            wants_protocols,
+            wants_algorithms,
+            keep_alive,
+        ),
+    }
+}
+
+// How many entries it put into the table.
+pub(super) fn entries(request: Request) -> usize {
+    match request {
+        Request::KeyExchange { denied, .. } => denied,
+        _ => 0,
     }
 }
 
@@ -147,7 +150,10 @@ pub(super) fn put_answer(
 ) -> usize {
     let answer = Request::parse(message, limit, table);
     match answer {
-        Answer::Accepted(request) => put_request(out, at, message, table, request),
+        Answer::Accepted(request) => {
+            let to = put_request(out, at, message, table, request);
+            lent::put_changed_behind(out, to, table, entries(request))
+        }
         Answer::Refused(refusal) => lent::put_refused(out, at, table, refusal),
     }
 }

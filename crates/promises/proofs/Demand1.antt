@@ -33,7 +33,12 @@ use Rattle.places.specs.Places.{roomOf}
 use Rattle.places.specs.declared.Filled.the-variants as filled
 use Rattle.request.specs.Request.{request}
 use Rattle.request.specs.declared.Answer.the-variants as request-answer
+use Rattle.reply.specs.Reply.{replyOf}
 use Rattle.reply.specs.declared.Answer.the-variants as reply-answer
+use Rattle.pieces.specs.Pieces.{toldState}
+use Rattle.pieces.specs.declared.RequestAnswer.the-variants as asked
+use Rattle.pieces.specs.declared.ReplyAnswer.the-variants as replied
+use Rattle.pieces.specs.declared.Answer.the-variants as handed
 use Rattle.negotiation.specs.Negotiation.{toldChoice, toldProtocol}
 use Rattle.negotiation.specs.declared.Choice.the-variants as choice
 use Rattle.negotiation.specs.declared.ProtocolChoice.the-variants as protocol
@@ -51,6 +56,11 @@ use Rattle.places.proofs.fill.Reads as places-fill
 use Rattle.request.proofs.Request.parse.Reads as request-parse
 use Rattle.request.proofs.Request.judge.Reads as request-judge
 use Rattle.reply.proofs.KeyExchangeResponse.parse.Reads as reply-parse
+use Rattle.reply.proofs.KeyExchangeResponse.judge.Reads as reply-judge
+use Rattle.pieces.proofs.feed_request.Reads as pieces-feed-request
+use Rattle.pieces.proofs.feed_reply.Reads as pieces-feed-reply
+use Rattle.pieces.proofs.hand.Reads as pieces-hand
+use Rattle.pieces.proofs.InPlace as pieces-hand-over
 use Rattle.negotiation.proofs.choose.Reads as negotiation-choose
 use Rattle.negotiation.proofs.choose_protocol.Reads as negotiation-choose-protocol
 use Rattle.plan.proofs.Plan.append.Reads as plan-append
@@ -66,9 +76,10 @@ use Rattle.outgoing.proofs.write_request.Reads as outgoing-write-request
 use Rattle.outgoing.proofs.request_length.Reads as outgoing-request-length
 use Rattle.listing.proofs.list.Reads as listing-list
 use Rattle.cells.proofs.give_count.Reads as cells-give-count
-use Rattle.promises.specs.Numbers.{In, ofRead, ofSight, ofChoice, ofProtocol, recordNumbers, walkNumbers, requestNumbers, replyNumbers, fillNumbers, choiceNumbers, protocolNumbers, lengthNumbers, writerNumbers, appendNumbers, planNumbers, replyWriterNumbers, roomNumbers}
+use Rattle.promises.specs.Numbers.{In, ofRead, ofSight, ofChoice, ofProtocol, recordNumbers, walkNumbers, requestNumbers, replyNumbers, feedRequestNumbers, feedReplyNumbers, expectedNumbers, orKept, fillNumbers, choiceNumbers, protocolNumbers, lengthNumbers, writerNumbers, appendNumbers, planNumbers, replyWriterNumbers, roomNumbers}
 use Rattle.promises.proofs.Exact.{record-exactly, look-exactly, walk-exactly, request-exactly, reply-exactly, fill-exactly, choose-exactly, choose-protocol-exactly, length-exactly, layout-length-exactly, serialize-exactly, layout-write-exactly, append-exactly, plan-length-exactly, deny-exactly, fixed-exactly, list-exactly, write-reply-exactly, support-length-exactly, write-support-exactly, request-length-exactly, write-request-exactly}
-use Rattle.promises.proofs.Refusing.{count-refuses, wrote-refuses, append-refuses, deny-refuses, fill-refuses, walk-refuses, judge-refuses, request-refuses, reply-refuses}
+use Rattle.promises.proofs.Refusing.{count-refuses, wrote-refuses, append-refuses, deny-refuses, fill-refuses, walk-refuses, judge-refuses, request-refuses, reply-answer-refuses, reply-refuses}
+use Rattle.promises.proofs.RefusingFed.{feed-request-refuses, feed-reply-refuses, hands-over-refuses}
 
 -- ---- one record
 
@@ -117,6 +128,29 @@ request-judge-refuses κs a r e p y h =
 pub reply-parse-refuses : (κs : _) (a : _) (r : _) (e : _) → reply-parse.Learnt κs a r e → (y : Refusal) → r ≡ reply-answer.Refused y → (now (e .1 .1 .0) ≡ now (a .1 .1 .0)) × In (numberOf (y .error)) replyNumbers
 reply-parse-refuses κs a r e p y h =
     reply-refuses replyNumbers (reply-exactly .only (record { message = now (a .0); limit = a .1 .0; room = roomOf (now (a .1 .1 .0)) })) p y h
+
+pub reply-judge-refuses : (κs : _) (a : _) (r : _) (e : _) → reply-judge.Learnt κs a r e → (y : Refusal) → r .answer ≡ reply-answer.Refused y → In (numberOf (y .error)) replyNumbers
+reply-judge-refuses κs a r e p y h =
+    reply-answer-refuses replyNumbers (now (a .0)) (replyOf (now (a .0)) (a .1 .0) (a .1 .1 .0))
+    (reply-exactly .only (record { message = now (a .0); limit = a .1 .0; room = a .1 .1 .0 })) (p .says) y h .1
+
+-- ---- a read that is fed in pieces: a refusal may change connection and buffer, and no cell of the table (02, order 1)
+
+pub pieces-feed-request-refuses : (κs : _) (a : _) (r : _) (e : _) → pieces-feed-request.Learnt κs a r e → (y : Refusal) → r .answer ≡ asked.Refused y
+    → (now (e .1 .1 .1 .1 .0) ≡ now (a .1 .1 .1 .1 .0)) × In (numberOf (y .error)) (orKept (toldState (a .0 .state)) feedRequestNumbers)
+pieces-feed-request-refuses κs a r e p y h = feed-request-refuses (a .0) r p y h
+
+pub pieces-feed-reply-refuses : (κs : _) (a : _) (r : _) (e : _) → pieces-feed-reply.Learnt κs a r e → (y : Refusal) → r .answer ≡ replied.Refused y
+    → (now (e .1 .1 .1 .1 .0) ≡ now (a .1 .1 .1 .1 .0)) × In (numberOf (y .error)) (orKept (toldState (a .0 .state)) feedReplyNumbers)
+pieces-feed-reply-refuses κs a r e p y h = feed-reply-refuses (a .0) r p y h
+
+pub pieces-hand-refuses : (κs : _) (a : _) (r : _) (e : _) → pieces-hand.Learnt κs a r e → (y : Refusal) → r .answer ≡ handed.Refused y
+    → (now (e .1 .1 .1 .1 .1 .0) ≡ now (a .1 .1 .1 .1 .1 .0)) × In (numberOf (y .error)) (orKept (toldState (a .0 .state)) (expectedNumbers (a .1 .0)))
+pieces-hand-refuses κs a r e p y h = hands-over-refuses (a .0) (a .1 .0) _ _ _ _ r _ _ p y h
+
+pub pieces-hand-over-refuses : (κs : _) (a : _) (r : _) (e : _) → pieces-hand-over.Learnt κs a r e → (y : Refusal) → r ≡ handed.Refused y
+    → (now (e .1 .1 .1 .1 .1 .0) ≡ now (a .1 .1 .1 .1 .1 .0)) × In (numberOf (y .error)) (orKept (toldState (now (a .0) .state)) (expectedNumbers (a .1 .0)))
+pieces-hand-over-refuses κs a r e p y h = hands-over-refuses (now (a .0)) (a .1 .0) _ _ _ _ (record { connection = now (e .0); answer = r }) _ _ p y h
 
 -- ---- a choice
 

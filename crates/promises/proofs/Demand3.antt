@@ -9,7 +9,7 @@ use Rattle.promises.specs.Handed as requests
 use Rattle.promises.specs.HandedReply as replies
 use Rattle.promises.specs.Demand3.{Demand3}
 use Rattle.promises.specs.Called.{request-defined, reply-defined, request-parse, reply-parse, request-read, reply-read}
-use Rattle.promises.proofs.Steady.{by-definition, by-calls}
+use Rattle.promises.proofs.Steady.{by-definition, of-whole, by-calls}
 use Rattle.promises.proofs.Handing.{request-faithful}
 use Rattle.promises.proofs.HandingReply.{reply-faithful}
 use Rattle.promises.proofs.HostedRequest.{request-hosted}
@@ -23,11 +23,11 @@ request-demand = by-definition request-order.reading request-order.shows request
 
 -- of calls of request::Request::parse: the kind, the numbers, the names and the keys in hand are the same
 pub request-parse-demand : Demand3 request-parse
-request-parse-demand = by-calls request-order.reading request-order.shows request-parse requests.inHand request-faithful request-demand
+request-parse-demand = by-calls request-order.reading request-order.shows request-parse requests.inHand (of-whole request-order.reading request-order.shows request-faithful) request-demand
 
 -- of calls of ntske_read_request: what is in hand by its cells and the table
 pub read-request-demand : Demand3 request-read
-read-request-demand = by-calls request-order.reading request-order.shows request-read requests.inHand request-hosted request-demand
+read-request-demand = by-calls request-order.reading request-order.shows request-read requests.inHand (of-whole request-order.reading request-order.shows request-hosted) request-demand
 
 -- ---- replies
 
@@ -36,8 +36,8 @@ reply-demand = by-definition reply-order.reading reply-order.shows reply-ordered
 
 -- of calls of reply::KeyExchangeResponse::parse: the numbers, the name and the cookies in hand are the same
 pub reply-parse-demand : Demand3 reply-parse
-reply-parse-demand = by-calls reply-order.reading reply-order.shows reply-parse replies.inHand reply-faithful reply-demand
+reply-parse-demand = by-calls reply-order.reading reply-order.shows reply-parse replies.inHand (of-whole reply-order.reading reply-order.shows reply-faithful) reply-demand
 
 -- of calls of ntske_read_reply
 pub read-reply-demand : Demand3 reply-read
-read-reply-demand = by-calls reply-order.reading reply-order.shows reply-read replies.inHand reply-hosted reply-demand
+read-reply-demand = by-calls reply-order.reading reply-order.shows reply-read replies.inHand (of-whole reply-order.reading reply-order.shows reply-hosted) reply-demand

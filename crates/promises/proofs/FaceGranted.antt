@@ -1,9 +1,9 @@
 -- Demand 1, "A refusal bears its number from document 01": where the word of a call is not 0, it is that of the refusal which its definition tells (`gives-refused`,
 -- cells/proofs/Lent.antt, for every contract of `Gives`). Here the other way round: a call returns 0 only where its definition refuses nothing, since no number of a
 -- set is 0 (`sure-of`, Refusing.antt), and then what was lent holds what the definition gives. One theorem for each call that can refuse, over its own contract; for the
--- readers of whole messages `request-word` and `reply-word` (FaceKept.antt).
+-- readers of whole messages `request-word` and `reply-word` (FaceKept.antt). Of the calls that feed a read in pieces also what 65,535 says, and that a close never gives it.
 -- Assumes nothing.
-use mathlib.Core.Path.{_≡_}
+use mathlib.Core.Path.{_≡_, refl}
 use mathlib.Core.List.{List, [], _∷_}
 use mathlib.Core.Bool.{true, false}
 use Prim.Native.Nat.{ℕ}
@@ -23,11 +23,21 @@ use Rattle.messages.specs.Messages.{messageOf, bodiesOf, noProtocolRecords, noA
 use Rattle.listing.specs.Listing.{listing}
 use Rattle.cells.specs.Cells.{Given, cells, cell}
 use Rattle.cells.proofs.Lent.{gives-granted, counted-granted, writes-granted}
-use Rattle.reading.specs.Read.{recordGiven}
+use Rattle.places.specs.Places.{roomOf}
+use Rattle.pieces.specs.Pieces.{Brought, Read, nothingYet, says}
+use Rattle.pieces.specs.Reads.{requestRead, replyRead}
+use Rattle.reading.specs.Read.{requestGiven, replyGiven, recordGiven}
+use Rattle.feeding.specs.Fed.{isConnection, lineIn, saysIn}
+use Rattle.feeding.proofs.Answering.{host-request, host-reply, request-sixteenth, reply-sixteenth, fed-granted, fed-waits}
+use Rattle.promises.proofs.Closing.{closed-says}
 use Rattle.handing.specs.Handed.{choiceGiven, protocolGiven, keyGiven}
 use Rattle.planning.specs.Planned.{planIn, changed, grownGiven, appended, plannedLength, plannedReply, plannedBytes}
 use Rattle.writing.specs.Given.{recordIn, heldLength, heldBytes, askedOf, supportCount}
 use Rattle.reading.proofs.ntske_read_record.Reads as read-record
+use Rattle.feeding.proofs.ntske_feed_request.Reads as feed-request
+use Rattle.feeding.proofs.ntske_close_request.Reads as close-request
+use Rattle.feeding.proofs.ntske_feed_reply.Reads as feed-reply
+use Rattle.feeding.proofs.ntske_close_reply.Reads as close-reply
 use Rattle.handing.proofs.ntske_choose.Reads as choose
 use Rattle.handing.proofs.ntske_choose_protocol.Reads as choose-protocol
 use Rattle.handing.proofs.ntske_key_length.Reads as key-length
@@ -68,6 +78,14 @@ Counted a after = (n : ℕ) × (a ≡ bytes n) × (after ≡ n ∷ [])
 abbrev pub Written : Count → List ℕ → List ℕ → List ℕ → List ℕ → Type 0
 Written a b o o′ after = (n : ℕ) × (a ≡ bytes n) × (o′ ≡ over b o) × (after ≡ n ∷ [])
 
+-- .. and of a read that is fed in pieces: the cells c hold a connection whose read is accepted, and f gives these for what is told of it
+abbrev pub FedAccepted : (X : Read) → (X .Told → Given) → List ℕ → List ℕ → Brought → List ℕ → List ℕ → Type 0
+FedAccepted X f c b h t after = (isConnection c ≡ true) × (x : X .Told) × (saysIn X (lineIn c) b h (roomOf t) ≡ says x) × (f x ≡ cells after)
+
+-- 65,535: its read waits
+abbrev pub FedWaits : Read → List ℕ → List ℕ → Brought → List ℕ → Type 0
+FedWaits X c b h t = (isConnection c ≡ true) × (saysIn X (lineIn c) b h (roomOf t) ≡ nothingYet)
+
 -- ---- one record; a choice, and the length of a key
 
 pub read-record-granted : (κs : _) (a : _) (r : _) (e : _) → read-record.Learnt κs a r e → r ≡ 0
@@ -85,6 +103,38 @@ choose-protocol-granted κs a r e p z = gives-granted p (sure-of (protocol-tells
 pub key-length-granted : (κs : _) (a : _) (r : _) (e : _) → key-length.Learnt κs a r e → r ≡ 0
     → Gave (keyGiven (a .0) (describe (a .0))) (now (e .1 .0))
 key-length-granted κs a r e p z = gives-granted p (sure-of (key-tells (a .0))) z
+
+-- ---- a read that is fed in pieces
+
+pub feed-request-granted : (κs : _) (a : _) (r : _) (e : _) → feed-request.Learnt κs a r e → r ≡ 0
+    → FedAccepted requestRead requestGiven (now (a .0)) (now (a .1 .1 .0)) (record { piece = now (a .1 .0); closed = false }) (now (a .1 .1 .1 .0)) (now (e .1 .1 .1 .1 .0))
+feed-request-granted κs a r e p z = fed-granted host-request request-sixteenth p z
+
+pub feed-request-waits : (κs : _) (a : _) (r : _) (e : _) → feed-request.Learnt κs a r e → r ≡ 65535
+    → FedWaits requestRead (now (a .0)) (now (a .1 .1 .0)) (record { piece = now (a .1 .0); closed = false }) (now (a .1 .1 .1 .0))
+feed-request-waits κs a r e p z = fed-waits host-request request-sixteenth p z
+
+pub close-request-granted : (κs : _) (a : _) (r : _) (e : _) → close-request.Learnt κs a r e → r ≡ 0
+    → FedAccepted requestRead requestGiven (now (a .0)) (now (a .1 .0)) (record { piece = []; closed = true }) (now (a .1 .1 .0)) (now (e .1 .1 .1 .0))
+close-request-granted κs a r e p z = fed-granted host-request request-sixteenth p z
+
+pub close-request-decides : (κs : _) (a : _) (r : _) (e : _) → close-request.Learnt κs a r e → r ≡ 65535 → ⊥
+close-request-decides κs a r e p z = closed-says requestRead (lineIn (now (a .0))) (now (a .1 .0)) (record { piece = []; closed = true }) refl _ (roomOf (now (a .1 .1 .0))) (fed-waits host-request request-sixteenth p z .1)
+
+pub feed-reply-granted : (κs : _) (a : _) (r : _) (e : _) → feed-reply.Learnt κs a r e → r ≡ 0
+    → FedAccepted replyRead replyGiven (now (a .0)) (now (a .1 .1 .0)) (record { piece = now (a .1 .0); closed = false }) (now (a .1 .1 .1 .0)) (now (e .1 .1 .1 .1 .0))
+feed-reply-granted κs a r e p z = fed-granted host-reply reply-sixteenth p z
+
+pub feed-reply-waits : (κs : _) (a : _) (r : _) (e : _) → feed-reply.Learnt κs a r e → r ≡ 65535
+    → FedWaits replyRead (now (a .0)) (now (a .1 .1 .0)) (record { piece = now (a .1 .0); closed = false }) (now (a .1 .1 .1 .0))
+feed-reply-waits κs a r e p z = fed-waits host-reply reply-sixteenth p z
+
+pub close-reply-granted : (κs : _) (a : _) (r : _) (e : _) → close-reply.Learnt κs a r e → r ≡ 0
+    → FedAccepted replyRead replyGiven (now (a .0)) (now (a .1 .0)) (record { piece = []; closed = true }) (now (a .1 .1 .0)) (now (e .1 .1 .1 .0))
+close-reply-granted κs a r e p z = fed-granted host-reply reply-sixteenth p z
+
+pub close-reply-decides : (κs : _) (a : _) (r : _) (e : _) → close-reply.Learnt κs a r e → r ≡ 65535 → ⊥
+close-reply-decides κs a r e p z = closed-says replyRead (lineIn (now (a .0))) (now (a .1 .0)) (record { piece = []; closed = true }) refl _ (roomOf (now (a .1 .1 .0))) (fed-waits host-reply reply-sixteenth p z .1)
 
 -- ---- a plan, its length and its reply
 

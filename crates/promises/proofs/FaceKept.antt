@@ -1,7 +1,9 @@
 -- Demand 1 for every call that a host links and that has memory lent to it for writing: "A refusal bears its number from document 01 and changes no lent table or
 -- buffer." Each call returns one word. The first theorems say what that word is of the readers of whole messages; those that follow say of each call, over its own
 -- contract, that a word which is not 0 leaves all that was lent as it was, and that its number, the word's remainder by 65,536, is one of the call's set
--- (specs/Numbers.antt). Five calls refuse nothing. That each number of a set is told: Exact.antt, ExactFace.antt. What a word that is 0 says: FaceGranted.antt.
+-- (specs/Numbers.antt). Six calls refuse nothing. Of the calls that feed a read in pieces a word that is neither 0 nor 65,535 refuses: neither it nor 65,535, which waits,
+-- changes the table or the answer's cells; connection and buffer may change (02, order 1), and what changes nothing of them is said, too. That each number of a set is told:
+-- Exact.antt, ExactFace.antt, and of a read in pieces, over the definition, ExactFed.antt. What a word that is 0 says: FaceGranted.antt.
 -- Assumes nothing.
 use mathlib.Core.Path.{_≡_, ap}
 use mathlib.Core.List.{List}
@@ -29,6 +31,14 @@ use Rattle.reading.specs.Read.{ReadsRequest, ReadsReply}
 use Rattle.reading.proofs.ntske_read_request.Reads as read-request
 use Rattle.reading.proofs.ntske_read_reply.Reads as read-reply
 use Rattle.reading.proofs.ntske_read_record.Reads as read-record
+use Rattle.feeding.proofs.ntske_connection_new.Reads as connection-new
+use Rattle.feeding.proofs.ntske_feed_request.Reads as feed-request
+use Rattle.feeding.proofs.ntske_close_request.Reads as close-request
+use Rattle.feeding.proofs.ntske_feed_reply.Reads as feed-reply
+use Rattle.feeding.proofs.ntske_close_reply.Reads as close-reply
+use Rattle.pieces.specs.Pieces.{isPending}
+use Rattle.feeding.specs.Fed.{lineIn}
+use Rattle.feeding.proofs.Answering.{fed-again}
 use Rattle.handing.proofs.ntske_part.Reads as part
 use Rattle.handing.proofs.ntske_entry.Reads as entry
 use Rattle.handing.proofs.ntske_number.Reads as number
@@ -59,13 +69,14 @@ use Rattle.writing.proofs.ntske_append_denied.Reads as append-denied
 use Rattle.writing.proofs.ntske_write_record.Reads as write-record
 use Rattle.writing.proofs.ntske_record_length.Reads as record-length
 use Rattle.showing.proofs.ntske_list.Reads as list
-use Rattle.promises.specs.Numbers.{In, ofAnswer, recordNumbers, requestNumbers, replyNumbers, choiceNumbers, protocolNumbers, keyNumbers, planNumbers, appendNumbers, lengthNumbers, writerNumbers, replyWriterNumbers, roomNumbers}
+use Rattle.promises.specs.Numbers.{In, ofAnswer, recordNumbers, requestNumbers, replyNumbers, feedRequestNumbers, feedReplyNumbers, orHeld, choiceNumbers, protocolNumbers, keyNumbers, planNumbers, appendNumbers, lengthNumbers, writerNumbers, replyWriterNumbers, roomNumbers}
 use Rattle.promises.proofs.Exact.{request-exactly, reply-exactly}
 use Rattle.promises.proofs.Refusing.{number-of, given-refuses, writes-refuses}
 use Rattle.promises.proofs.Telling.{request-tells, reply-tells, record-tells, choice-tells, protocol-tells, key-tells, change-tells, append-tells, plan-length-tells, write-reply-tells, fixed-tells, support-length-tells, write-support-tells, request-length-tells, write-request-tells, deny-tells, record-length-tells, write-record-tells, list-tells}
 use Rattle.promises.proofs.Hosted.{granted, bears, told-apart, kept}
 use Rattle.promises.proofs.HostedRequest.{hosted-request}
 use Rattle.promises.proofs.HostedReply.{hosted-reply}
+use Rattle.promises.proofs.HostedFed.{fed-request-refuses, fed-reply-refuses}
 
 -- ---- the readers' word
 
@@ -121,6 +132,42 @@ ntske-read-reply-refuses κs a r e p h = let k = kept hosted-reply p h in (k .0,
 
 pub ntske-read-record-refuses : (κs : _) (a : _) (r : _) (e : _) → read-record.Learnt κs a r e → (r ≡ 0 → ⊥) → (now (e .1 .1 .0) ≡ now (a .1 .1 .0)) × In (r % 65536) recordNumbers
 ntske-read-record-refuses κs a r e p h = given-refuses (record-tells (now (a .0)) (a .1 .0)) p h
+
+-- ---- of `feeding`: the table of names or cookies, and the answer's cells
+
+pub ntske-connection-new-refuses-nothing : (κs : _) (a : _) (r : _) (e : _) → connection-new.Learnt κs a r e → r ≡ 0
+ntske-connection-new-refuses-nothing κs a r e p = p .says
+
+pub ntske-feed-request-refuses : (κs : _) (a : _) (r : _) (e : _) → feed-request.Learnt κs a r e → (r ≡ 0 → ⊥) → (now (e .1 .1 .1 .0) ≡ now (a .1 .1 .1 .0)) × (now (e .1 .1 .1 .1 .0) ≡ now (a .1 .1 .1 .1 .0)) × ((r ≡ 65535 → ⊥) → In (r % 65536) (orHeld (now (a .0)) feedRequestNumbers))
+ntske-feed-request-refuses κs a r e p h = fed-request-refuses p h
+
+pub ntske-close-request-refuses : (κs : _) (a : _) (r : _) (e : _) → close-request.Learnt κs a r e → (r ≡ 0 → ⊥) → (now (e .1 .1 .0) ≡ now (a .1 .1 .0)) × (now (e .1 .1 .1 .0) ≡ now (a .1 .1 .1 .0)) × ((r ≡ 65535 → ⊥) → In (r % 65536) (orHeld (now (a .0)) feedRequestNumbers))
+ntske-close-request-refuses κs a r e p h = fed-request-refuses p h
+
+pub ntske-feed-reply-refuses : (κs : _) (a : _) (r : _) (e : _) → feed-reply.Learnt κs a r e → (r ≡ 0 → ⊥) → (now (e .1 .1 .1 .0) ≡ now (a .1 .1 .1 .0)) × (now (e .1 .1 .1 .1 .0) ≡ now (a .1 .1 .1 .1 .0)) × ((r ≡ 65535 → ⊥) → In (r % 65536) (orHeld (now (a .0)) feedReplyNumbers))
+ntske-feed-reply-refuses κs a r e p h = fed-reply-refuses p h
+
+pub ntske-close-reply-refuses : (κs : _) (a : _) (r : _) (e : _) → close-reply.Learnt κs a r e → (r ≡ 0 → ⊥) → (now (e .1 .1 .0) ≡ now (a .1 .1 .0)) × (now (e .1 .1 .1 .0) ≡ now (a .1 .1 .1 .0)) × ((r ≡ 65535 → ⊥) → In (r % 65536) (orHeld (now (a .0)) feedReplyNumbers))
+ntske-close-reply-refuses κs a r e p h = fed-reply-refuses p h
+
+-- 9, and an answer that is there, change nothing: connection, buffer and table stay, and of an answer given again the answer's cells alone are put. Eight cells is what the
+-- calls' arrays have
+
+pub ntske-feed-request-again : (κs : _) (a : _) (r : _) (e : _) → feed-request.Learnt κs a r e → length (now (a .0)) ≡ 8 → isPending (lineIn (now (a .0))) (now (a .1 .1 .0)) ≡ false
+    → (now (e .0) ≡ now (a .0)) × (now (e .1 .1 .0) ≡ now (a .1 .1 .0)) × (now (e .1 .1 .1 .0) ≡ now (a .1 .1 .1 .0))
+ntske-feed-request-again κs a r e p l q = fed-again p l q
+
+pub ntske-close-request-again : (κs : _) (a : _) (r : _) (e : _) → close-request.Learnt κs a r e → length (now (a .0)) ≡ 8 → isPending (lineIn (now (a .0))) (now (a .1 .0)) ≡ false
+    → (now (e .0) ≡ now (a .0)) × (now (e .1 .0) ≡ now (a .1 .0)) × (now (e .1 .1 .0) ≡ now (a .1 .1 .0))
+ntske-close-request-again κs a r e p l q = fed-again p l q
+
+pub ntske-feed-reply-again : (κs : _) (a : _) (r : _) (e : _) → feed-reply.Learnt κs a r e → length (now (a .0)) ≡ 8 → isPending (lineIn (now (a .0))) (now (a .1 .1 .0)) ≡ false
+    → (now (e .0) ≡ now (a .0)) × (now (e .1 .1 .0) ≡ now (a .1 .1 .0)) × (now (e .1 .1 .1 .0) ≡ now (a .1 .1 .1 .0))
+ntske-feed-reply-again κs a r e p l q = fed-again p l q
+
+pub ntske-close-reply-again : (κs : _) (a : _) (r : _) (e : _) → close-reply.Learnt κs a r e → length (now (a .0)) ≡ 8 → isPending (lineIn (now (a .0))) (now (a .1 .0)) ≡ false
+    → (now (e .0) ≡ now (a .0)) × (now (e .1 .0) ≡ now (a .1 .0)) × (now (e .1 .1 .0) ≡ now (a .1 .1 .0))
+ntske-close-reply-again κs a r e p l q = fed-again p l q
 
 -- ---- of `handing`: the cells
 

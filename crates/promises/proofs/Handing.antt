@@ -51,7 +51,7 @@ module _ (m : List ℕ) (x : Sighting) (h : x .start + x .len ≤ length m) wher
 -- ---- what the call answered
 
 module _ (m : List ℕ) where
-  shown : (table table′ : List ℕ) (x : Request) (q : Form Sighting) → InsideForm (length m) q → toldRequest x ≡ toldForm m q
+  pub shown : (table table′ : List ℕ) (x : Request) (q : Form Sighting) → InsideForm (length m) q → toldRequest x ≡ toldForm m q
       → table′ ≡ tableAfter (accepted q) table → handedOut m table′ x ≡ inHand (mapForm (bodyIn m) q)
   unfolding tableAfter
   shown table table′ (KeyExchange p a n) (keyExchange p₁ a₁ d) i e l =
@@ -80,12 +80,12 @@ module _ (m : List ℕ) where
       cc (ap (bytesAt m) eu)
 
 -- a request is no refusal
-told-not : (x : Request) (y : Refused) → toldRequest x ≡ refusedWith y → _≡_ {A = ℕ} 0 1
+pub told-not : (x : Request) (y : Refused) → toldRequest x ≡ refusedWith y → _≡_ {A = ℕ} 0 1
 told-not (KeyExchange p a n) y h = cc
 told-not (FixedKey u c s a p k) y h = cc
 told-not (Support u p a k) y h = cc
 
-form-not : (m : List ℕ) (q : Form Sighting) (y : Refused) → toldForm m q ≡ refusedWith y → _≡_ {A = ℕ} 0 1
+pub form-not : (m : List ℕ) (q : Form Sighting) (y : Refused) → toldForm m q ≡ refusedWith y → _≡_ {A = ℕ} 0 1
 form-not m (keyExchange p a d) y h = cc
 form-not m (fixedKey u x a p k) y h = cc
 form-not m (support u p a k) y h = cc

@@ -37,7 +37,7 @@ module _ (m : List ℕ) where
   port-body notSent = refl
   port-body (sent x) = refl
 
-  shown : (table table′ : List ℕ) (x : KeyExchangeResponse) (q : Form Sighting) → InsideForm (length m) q → toldReply x ≡ toldForm m q
+  pub shown : (table table′ : List ℕ) (x : KeyExchangeResponse) (q : Form Sighting) → InsideForm (length m) q → toldReply x ≡ toldForm m q
       → table′ ≡ tableAfter (accepted q) table → handedOut m table′ x ≡ inHand (mapForm (bodyIn m) q)
   unfolding tableAfter
   shown table table′ x (reply p a s t k c) i e l =

@@ -4,6 +4,7 @@ pub mod Bearing
 pub mod Exact
 pub mod ExactFace
 pub mod Refusing
+pub mod RefusingFed
 pub mod Telling
 pub mod Demand1
 pub mod Demand2
@@ -18,6 +19,19 @@ pub mod Hosted
 pub mod HostedRequest
 pub mod HostedReply
 pub mod HostedRecord
+pub mod HostedFed
 pub mod FaceRecord
+pub mod Closing
 pub mod FaceKept
 pub mod FaceGranted
+pub mod Coming
+pub mod Waiting
+pub mod Cutting
+pub mod Locals
+pub mod ExamplesPieces
+pub mod Joined
+pub mod Spoken
+pub mod Pieces
+pub mod FedLines
+pub mod PiecesFace
+pub mod ExactFed

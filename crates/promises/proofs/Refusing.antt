@@ -114,13 +114,21 @@ module _ (l : List ℕ) where
   reply-told m (judge.refused r) y e = let z : r ≡ y = cc in ap judge.refused z
   reply-told m (judge.accepted (replies.reply p a s t k c)) y e = let z : _≡_ {A = ℕ} 0 1 = cc in absurd (omega arith)
 
+  -- the answer alone, as KeyExchangeResponse::judge gives it ..
+  pub reply-answer-refuses : (m : List ℕ) (a : judge.Answer replies.Form) {r : reply-answers.Answer} → Only l (ofAnswer a) → replies.toldAnswer r ≡ replies.toldBy m a
+      → (y : Refusal) → r ≡ reply-answer.Refused y → (a ≡ judge.refused (toldRefusal y)) × In (numberOf (y .error)) l
+  reply-answer-refuses m a only p y h =
+      let e = reply-told m a (toldRefusal y) (sym p ∙ ap replies.toldAnswer h) in
+      (e, only (numberOf (y .error)) (ap ofAnswer e))
+
+  -- .. and with the table
   pub reply-refuses : {m : List ℕ} {n : ℕ} {table table′ : List ℕ} {r : reply-answers.Answer}
       → Only l (ofAnswer (replies.replyOf m n (roomOf table))) → replies.Reads m n table r table′
       → (y : Refusal) → r ≡ reply-answer.Refused y → (table′ ≡ table) × In (numberOf (y .error)) l
   unfolding replies.tableAfter
   reply-refuses {m} {n} {table} only p y h =
-      let e = reply-told m (replies.replyOf m n (roomOf table)) (toldRefusal y) (sym (p .says) ∙ ap replies.toldAnswer h) in
-      (p .left ∙ ap (λ (o : judge.Answer replies.Form). over (cells (replies.cookiesOf o)) table) e ∙ over-none table, only (numberOf (y .error)) (ap ofAnswer e))
+      let e = reply-answer-refuses m (replies.replyOf m n (roomOf table)) only (p .says) y h in
+      (p .left ∙ ap (λ (o : judge.Answer replies.Form). over (cells (replies.cookiesOf o)) table) (e .0) ∙ over-none table, e .1)
 
 -- ---- the calls that a host links: one word, of which the number is the remainder by 65,536
 

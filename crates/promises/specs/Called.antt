@@ -61,6 +61,7 @@ request-parse = record {
   Call = ParseRequest;
   asked = λ c. now (c .a .0);
   under = λ c. asked (c .a .1 .0) (now (c .a .1 .1 .0));
+  Holds = λ c n. Unit {0};
   Accepts = λ c s. (x : Request) × (c .answer ≡ request.Accepted x) × (requests.handedOut (now (c .a .0)) (now (c .e .1 .1 .0)) x ≡ s);
   Refuses = λ c y. (x : Refusal) × (c .answer ≡ request.Refused x) × (toldRefusal x ≡ y) × (now (c .e .1 .1 .0) ≡ now (c .a .1 .1 .0));
 }
@@ -70,6 +71,7 @@ reply-parse = record {
   Call = ParseReply;
   asked = λ c. now (c .a .0);
   under = λ c. asked (c .a .1 .0) (now (c .a .1 .1 .0));
+  Holds = λ c n. Unit {0};
   Accepts = λ c s. (x : KeyExchangeResponse) × (c .answer ≡ reply.Accepted x) × (replies.handedOut (now (c .a .0)) (now (c .e .1 .1 .0)) x ≡ s);
   Refuses = λ c y. (x : Refusal) × (c .answer ≡ reply.Refused x) × (toldRefusal x ≡ y) × (now (c .e .1 .1 .0) ≡ now (c .a .1 .1 .0));
 }
@@ -96,6 +98,7 @@ request-read = record {
   Call = ReadRequest;
   asked = λ c. now (c .a .0);
   under = λ c. asked (c .a .1 .0) (now (c .a .1 .1 .0));
+  Holds = λ c n. Unit {0};
   Accepts = λ c s. (c .answer ≡ 0) × (requestInHand (now (c .a .0)) (now (c .e .1 .1 .0)) (now (c .e .1 .1 .1 .0)) ≡ s);
   Refuses = λ c y. (c .answer ≡ word y) × (now (c .e .1 .1 .0) ≡ now (c .a .1 .1 .0)) × (now (c .e .1 .1 .1 .0) ≡ now (c .a .1 .1 .1 .0));
 }
@@ -105,6 +108,7 @@ reply-read = record {
   Call = ReadReply;
   asked = λ c. now (c .a .0);
   under = λ c. asked (c .a .1 .0) (now (c .a .1 .1 .0));
+  Holds = λ c n. Unit {0};
   Accepts = λ c s. (c .answer ≡ 0) × (replyInHand (now (c .a .0)) (now (c .e .1 .1 .0)) (now (c .e .1 .1 .1 .0)) ≡ s);
   Refuses = λ c y. (c .answer ≡ word y) × (now (c .e .1 .1 .0) ≡ now (c .a .1 .1 .0)) × (now (c .e .1 .1 .1 .0) ≡ now (c .a .1 .1 .1 .0));
 }

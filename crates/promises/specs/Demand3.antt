@@ -1,5 +1,6 @@
--- Demand 3, of any reader of whole messages, with its sentences. It is one statement, `Demand3`; proofs/Demand3.antt proves it of the definitions of a request
--- and of a reply, of the two readers by their own contracts, and of the two calls that a host links.
+-- Demand 3, of any reader of messages, with its sentences. It is one statement, `Demand3`; proofs/Demand3.antt proves it of the definitions of a request
+-- and of a reply, of the two readers by their own contracts, and of the two calls that a host links; proofs/Pieces.antt and PiecesFace.antt of the bytes that a line
+-- delivered, joined.
 use Prim.Native.Nat.{ℕ, _+_, _≤_}
 use mathlib.Core.Path.{_≡_}
 use mathlib.Core.List.{List, _∷_, _++_, List·Permᴰ}
@@ -14,19 +15,21 @@ use Rattle.walk.specs.Table.{known}
 
 -- ---- a reader, as its caller sees it
 
--- over the calls that were made: the message that a call was asked with, and under what, a limit and a table room; what it is that it accepted and that s is in
--- hand; and what it is that it refused, and left what was lent as it was
+-- over the calls that were made: the message that a call was asked with, and under what, a limit and a table room; what it is that it has room for so many bytes of the
+-- message, which a reader of whole messages always has; what it is that it accepted and that s is in hand; and what it is that it refused, and left what was lent as it was
 pub record Reader (S : Type 0) : Type 2 where
   pub Call : Type 1
   pub asked : Call → List ℕ
   pub under : Call → Under
+  pub Holds : Call → ℕ → Type 0
   pub Accepts : Call → S → Type 0
   pub Refuses : Call → Refused → Type 0
 
--- the call d was asked with the message m, under the same limit and table room as the call c
-pub record Likewise {S : Type 0} (R : Reader S) (c d : R .Call) (m : List ℕ) : Type 0 where
-  pub asked : R .asked d ≡ m
+-- the call d was asked with the records cs, the end record e and a tail t, under the same limit and table room as the call c, and has room through the end record
+pub record Likewise {S : Type 0} (R : Reader S) (c d : R .Call) (cs : List (List ℕ)) (e t : List ℕ) : Type 0 where
+  pub asked : R .asked d ≡ message cs e t
   pub under : R .under d ≡ R .under c
+  pub holds : R .Holds d (length (flat cs) + length e)
 
 -- ---- the sentences
 
@@ -34,16 +37,16 @@ pub record Likewise {S : Type 0} (R : Reader S) (c d : R .Call) (m : List ℕ) :
 pub record Steady {S : Type 0} (R : Reader S) (c : R .Call) (s : S) (p : Parts Record End (R .asked c) (R .under c .limit)) : Type 1 where
   -- "Reorder the records before its end record, denied names keeping their order and cookies theirs: the answer's kind, numbers, names, keys and cookies are the
   -- same."
-  pub reordered : (cs : List (List ℕ)) (t : List ℕ) (d : R .Call) → Likewise R c d (message cs (p .last) t) → List·Permᴰ (p .front) cs
+  pub reordered : (cs : List (List ℕ)) (t : List ℕ) (d : R .Call) → Likewise R c d cs (p .last) t → List·Permᴰ (p .front) cs
       → bodies 13 (p .front) ≡ bodies 13 cs → bodies 5 (p .front) ≡ bodies 5 cs
       → R .Accepts d s
   -- "Insert a whole record of unknown kind, critical bit clear, just before any record up to the end: the same again, if the message through its end record still
   -- fits the limit."
-  pub inserted : (xs ys : List (List ℕ)) (u t : List ℕ) (d : R .Call) → Likewise R c d (message (xs ++ (u ∷ ys)) (p .last) t) → p .front ≡ xs ++ ys
+  pub inserted : (xs ys : List (List ℕ)) (u t : List ℕ) (d : R .Call) → Likewise R c d (xs ++ (u ∷ ys)) (p .last) t → p .front ≡ xs ++ ys
       → Whole u → known (kind u) ≡ false → length (flat (xs ++ (u ∷ ys))) + length (p .last) ≤ R .under c .limit
       → critical u ≡ false → R .Accepts d s
   -- "With the bit set, under that condition: refusal 3, at that record."
-  pub inserted-critical : (xs ys : List (List ℕ)) (u t : List ℕ) (d : R .Call) → Likewise R c d (message (xs ++ (u ∷ ys)) (p .last) t) → p .front ≡ xs ++ ys
+  pub inserted-critical : (xs ys : List (List ℕ)) (u t : List ℕ) (d : R .Call) → Likewise R c d (xs ++ (u ∷ ys)) (p .last) t → p .front ≡ xs ++ ys
       → Whole u → known (kind u) ≡ false → length (flat (xs ++ (u ∷ ys))) + length (p .last) ≤ R .under c .limit
       → critical u ≡ true → R .Refuses d (record { number = 3; beside = nothing; place = length (flat xs) })
 
@@ -66,6 +69,7 @@ defined {Q} reading shows = record {
   Call = Question;
   asked = λ c. c .message;
   under = λ c. c .under;
+  Holds = λ c n. Unit {0};
   Accepts = λ c x. (q : Q Sighting) × (reading (c .message) (c .under) ≡ accepted q) × (shows (c .message) q ≡ x);
   Refuses = λ c y. reading (c .message) (c .under) ≡ refused y;
 }

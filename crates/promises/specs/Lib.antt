@@ -5,3 +5,6 @@ pub mod Demand3
 pub mod Called
 pub mod Starred
 pub mod Numbers
+pub mod Pieces
+pub mod Fed
+pub mod FedCells

@@ -3,7 +3,8 @@
 use Prim.Native.Nat.{ℕ, _≤_}
 use mathlib.Core.Path.{_≡_}
 use mathlib.Core.List.{List, [], _∷_}
-use mathlib.Core.Bool.{true}
+use mathlib.Core.Bool.{true, cond}
+use lib.Dec.{eqb}
 use Rattle.layout.specs.Write as write
 use Rattle.record.specs.Record as rec
 use Rattle.walk.specs.Walk as walk
@@ -11,6 +12,10 @@ use Rattle.walk.specs.Judge as judge
 use Rattle.places.specs.Places as places
 use Rattle.negotiation.specs.Negotiation as choice
 use Rattle.negotiation.specs.Negotiation.{holds}
+use Rattle.pieces.specs.Pieces as pieces
+use Rattle.pieces.specs.Pieces.{Standing, pending, accepted, refused}
+use Rattle.pieces.specs.declared.Expected.{Expected}
+use Rattle.pieces.specs.declared.Expected.the-variants as expected
 use Rattle.plan.specs.Plan as plan
 use Rattle.plan.specs.declared.Plan.{Plan}
 use Rattle.messages.specs.declared.Asked.{Asked}
@@ -65,6 +70,11 @@ abbrev pub ofAnswer : {Q : Type 0 → Type 0} → judge.Answer Q → Number
 ofAnswer (judge.refused r) = bears (r .number)
 ofAnswer (judge.accepted q) = none
 
+-- of a read that is fed in pieces
+abbrev pub ofFed : {Q : Type 0 → Type 0} → pieces.Fed Q → Number
+ofFed pieces.none = none
+ofFed (pieces.answers a) = ofAnswer a
+
 -- of a table that is filled
 abbrev pub ofFilling : places.Filling → Number
 ofFilling (places.stored n) = none
@@ -107,6 +117,28 @@ requestNumbers = 1 ∷ 2 ∷ 3 ∷ 4 ∷ 5 ∷ 6 ∷ 7 ∷ []
 -- "The reply reader goes in record order"
 abbrev pub replyNumbers : List ℕ
 replyNumbers = 1 ∷ 2 ∷ 3 ∷ 4 ∷ 7 ∷ 11 ∷ 12 ∷ 13 ∷ 14 ∷ 15 ∷ []
+
+-- a read that is fed in pieces: these of a request or of a reply, 9 "for a connection record that counts more bytes than the buffer or the limit", and 16 (02, order 1) ..
+abbrev pub feedRequestNumbers : List ℕ
+feedRequestNumbers = 9 ∷ 16 ∷ requestNumbers
+
+abbrev pub feedReplyNumbers : List ℕ
+feedReplyNumbers = 9 ∷ 16 ∷ replyNumbers
+
+-- by which message is expected
+abbrev pub expectedNumbers : Expected → List ℕ
+expectedNumbers expected.Request = feedRequestNumbers
+expectedNumbers expected.Reply = feedReplyNumbers
+
+-- .. and the number of the refusal that the connection holds, where it holds one: "later calls change nothing and give it again"
+abbrev pub orKept : Standing → List ℕ → List ℕ
+orKept pending l = l
+orKept accepted l = l
+orKept (refused r) l = r .number ∷ l
+
+-- the same of a connection's cells c
+abbrev pub orHeld : List ℕ → List ℕ → List ℕ
+orHeld c l = cond (eqb (cells.cell c 4) 2) (cells.cell c 5 ∷ l) l
 
 -- a table to fill: "more names in a key-exchange request or cookies in a reply than the table holds", or more bytes than a cell counts (docs/DECISIONS.md)
 abbrev pub fillNumbers : List ℕ
@@ -154,6 +186,19 @@ pub record Read : Type 0 where
   pub message : List ℕ
   pub limit : ℕ
   pub room : ℕ
+
+-- a read that is fed in pieces and has no answer yet: its connection, the buffer, what is brought, and the room of the table
+pub record Piecewise : Type 0 where
+  pub limit : ℕ
+  pub gathered : ℕ
+  pub begins : ℕ
+  pub met : ℕ
+  pub buffer : List ℕ
+  pub brought : pieces.Brought
+  pub room : ℕ
+
+abbrev pub lineOf : Piecewise → pieces.Line
+lineOf x = record { limit = x .limit; gathered = x .gathered; begins = x .begins; met = x .met; standing = pending }
 
 pub record Filled : Type 0 where
   pub kind : ℕ

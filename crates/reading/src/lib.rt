@@ -103,7 +103,8 @@ fn refused(x: Refusal) -> u64
 
 // ---- answers as cells
 
-fn request_cells(x: Request) -> [usize; 10]
+// An accepted request's ten cells, as ntske_read_request gives them.
+pub fn request_cells(x: Request) -> [usize; 10]
     ensures { λ r. ⌜ cells r ≡ requestGiven (requests.toldRequest x) ⌝ }
 {
     match x {
@@ -139,7 +140,8 @@ fn request_cells(x: Request) -> [usize; 10]
     }
 }
 
-fn reply_cells(x: KeyExchangeResponse) -> [usize; 9]
+// An accepted reply's nine cells, as ntske_read_reply gives them.
+pub fn reply_cells(x: KeyExchangeResponse) -> [usize; 9]
     ensures { λ r. ⌜ cells r ≡ replyGiven (replies.toldReply x) ⌝ }
 {
     let server = x.server;

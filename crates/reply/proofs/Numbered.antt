@@ -1,8 +1,8 @@
--- A reply is refused with 1, 2, 3, 4, 7, 11, 12, 13, 14, 15 and no other number, and what stands beside it has sixteen bits, where the message is bytes.
+-- A reply is refused with 1, 2, 3, 4, 7, 11, 12, 13, 14, 15 and no other number; 11 and 12 alone have a number beside them, of sixteen bits, where the message is bytes.
 -- Assumes nothing.
-use mathlib.Core.Path.{_≡_}
+use mathlib.Core.Path.{_≡_, refl}
 use mathlib.Core.List.{List}
-use mathlib.Core.Bool.{_&&_, _||_}
+use mathlib.Core.Bool.{true, _&&_, _||_}
 use Prim.Native.Nat.{ℕ}
 use lib.ListN.{length}
 use lib.Dec.{ltb, eqb}
@@ -10,7 +10,7 @@ use Rattle.wire.specs.Bytes.{numberAt}
 use Rattle.nts.specs.Refusal.{nothing, code, Refused}
 use Rattle.walk.specs.Walk.{notes, Sighting}
 use Rattle.walk.specs.Judge.{bodyIn, refused}
-use Rattle.walk.proofs.Numbered.{Numbered, bare, ActBy, VerdictBy, number-small, act-if, act-by, verdict-if, verdict-first, refused-numbered}
+use Rattle.walk.proofs.Numbered.{coded, Numbered, bare, ActBy, VerdictBy, number-small, act-if, act-by, verdict-if, verdict-first, refused-numbered}
 use Rattle.reply.specs.Reply.{act, reader, decide, judging, replyOf}
 
 -- P says of a number that it may be told: what holds of these ten holds of the number of every refusal
@@ -18,26 +18,26 @@ module _ (P : ℕ → Type 0) (p : P 1 × P 2 × P 3 × P 4 × P 7 × P 11 × P 
   act-numbered : (k : ℕ) (b : List ℕ) → ActBy P b (act k b)
   unfolding act
   act-numbered k b =
-      act-if P b (eqb k 2) _ _ (told 11 (p .5))
-      (act-if P b (eqb k 3) _ _ (told 12 (p .6))
+      act-if P b (eqb k 2) _ _ (told 11 refl (p .5))
+      (act-if P b (eqb k 3) _ _ (told 12 refl (p .6))
       (act-if P b ((eqb k 1 || eqb k 4) && ltb 2 (length b)) _ _ four
       (act-if P b (eqb k 9 || eqb k 10 || eqb k 12 || eqb k 13 || eqb k 14) _ notes four tt)))
     where
       four : Numbered P b 4 nothing
-      four = bare P b 4 (p .3)
+      four = bare P b 4 refl (p .3)
 
-      told : (n : ℕ) → P n → Numbered P b n (code (numberAt b 0))
-      told n q = record { one = q; beside = number-small b }
+      told : (n : ℕ) → coded n ≡ true → P n → Numbered P b n (code (numberAt b 0))
+      told n f q = record { one = q; fits = f; beside = number-small b }
 
   decide-numbered : (m : List ℕ) (room : ℕ) (l : ℕ → List Sighting) → VerdictBy P m (decide room (bodyIn m) l)
   unfolding decide
   decide-numbered m room l =
-      verdict-first P m (l 1) _ _ (bare P m 4 (p .3))
-      (λ q. verdict-if P m (eqb (length (bodyIn m q)) 0) _ _ (bare P m 13 (p .7))
-      (verdict-first P m (l 4) _ _ (bare P m 4 (p .3))
-      (λ a. verdict-if P m (eqb (length (bodyIn m a)) 0) _ _ (bare P m 14 (p .8))
-      (verdict-if P m (eqb (length (l 5)) 0) _ _ (bare P m 15 (p .9))
-      (verdict-if P m (ltb room (length (l 5))) _ _ (bare P m 7 (p .4)) tt)))))
+      verdict-first P m (l 1) _ _ (bare P m 4 refl (p .3))
+      (λ q. verdict-if P m (eqb (length (bodyIn m q)) 0) _ _ (bare P m 13 refl (p .7))
+      (verdict-first P m (l 4) _ _ (bare P m 4 refl (p .3))
+      (λ a. verdict-if P m (eqb (length (bodyIn m a)) 0) _ _ (bare P m 14 refl (p .8))
+      (verdict-if P m (eqb (length (l 5)) 0) _ _ (bare P m 15 refl (p .9))
+      (verdict-if P m (ltb room (length (l 5))) _ _ (bare P m 7 refl (p .4)) tt)))))
 
   pub reply-numbered : (m : List ℕ) (n room : ℕ) (r : Refused) → replyOf m n room ≡ refused r → Numbered P m (r .number) (r .beside)
   unfolding replyOf

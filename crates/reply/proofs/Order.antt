@@ -2,18 +2,20 @@
 -- kind and its bit clear, show the same bodies; with the bit set it is refusal 3 at that record. And each part of an accepted reply lies inside
 -- the message.
 -- Assumes nothing.
-use mathlib.Core.Path.{_≡_, refl}
+use mathlib.Core.Path.{_≡_}
 use mathlib.Core.List.{List, [], _∷_}
-use mathlib.Core.Bool.{Bool, true, false, cond}
+use mathlib.Core.Bool.{Bool, cond}
 use Prim.Native.Nat.{ℕ, _+_, _≤_}
 use lib.ListN.{length}
 use lib.Dec.{ltb, eqb}
+use borrow.Author.Tests.{ltb-false}
 use Rattle.nts.specs.Refusal.{nothing}
 use Rattle.walk.specs.Walk.{Sighting}
-use Rattle.walk.specs.Judge.{Under, Verdict, no, yes, some, withFirst, ofKind, bodyIn, Answer, accepted}
+use Rattle.walk.specs.Judge.{Under, Verdict, some, withFirst, ofKind, bodyIn, Answer, accepted}
 use Rattle.walk.proofs.Demand3.{Ordered, ordered}
 use Rattle.walk.proofs.Noted.{Inside, kind-inside}
-use Rattle.walk.proofs.Verdicts.{Held, held-if, held-first, accepted-held}
+use Rattle.walk.proofs.Verdicts as verdicts
+use Rattle.walk.proofs.Verdicts.{accepted-held}
 use Rattle.reply.specs.Reply.{act, once, reader, Sent, sent, notSent, firstSent, Form, reply, mapForm, decide, judging, replyOf}
 use Rattle.reply.proofs.Lawful.{reply-goes, reply-lawful}
 
@@ -29,6 +31,30 @@ pub reply-ordered : Ordered reading shows
 unfolding replyOf
 reply-ordered = ordered act once reply-goes judging reply-lawful
 
+-- ---- what holds of every verdict that accepts, over records whose bodies lie inside N bytes
+
+module _ (N room : ℕ) (l : ℕ → List Sighting) (i : (k : ℕ) → Inside N (l k)) (P : Form Sighting → Type 0)
+    (at-reply : (p a : Sighting) → Inside N (p ∷ a ∷ l 5) → length (l 5) ≤ room → P (reply p a (firstSent (l 6)) (firstSent (l 7)) (some (l 8)) (l 5))) where
+  abbrev Held : Verdict Form Sighting → Type 0
+  Held v = verdicts.Held judging P v
+
+  held-if : (t : Bool) (v w : Verdict Form Sighting) → Held v → Held w → Held (cond t v w)
+  held-if t v w p q = verdicts.held-if judging P t v w (λ e. p) (λ e. q)
+
+  held-first : (k : ℕ) (v : Verdict Form Sighting) (f : Sighting → Verdict Form Sighting) → Held v
+      → ((x : Sighting) → x .start + x .len ≤ N → Held (f x)) → Held (withFirst (l k) v f)
+  held-first k v f = verdicts.held-first judging P N (l k) v f (i k)
+
+  pub decide-held : (val : Sighting → List ℕ) → verdicts.Held judging P (decide room val l)
+  unfolding decide
+  decide-held val =
+      held-first 1 _ _ tt
+      (λ p hp. held-if (eqb (length (val p)) 0) _ _ tt
+      (held-first 4 _ _ tt
+      (λ a ha. held-if (eqb (length (val a)) 0) _ _ tt
+      (held-if (eqb (length (l 5)) 0) _ _ tt
+      (verdicts.held-if judging P (ltb room (length (l 5))) _ _ (λ e. tt) (λ e. at-reply p a (hp, (ha, i 5)) (ltb-false room (length (l 5)) e)))))))
+
 -- ---- where the parts of an accepted reply lie
 
 abbrev pub InsideSent : ℕ → Sent Sighting → Type 0
@@ -42,25 +68,10 @@ first-inside : (N : ℕ) (l : List Sighting) → Inside N l → InsideSent N (fi
 first-inside N [] i = tt
 first-inside N (x ∷ l) i = i .0
 
-module _ (N room : ℕ) (val : Sighting → List ℕ) (l : ℕ → List Sighting) (i : (k : ℕ) → Inside N (l k)) where
-  abbrev D : Verdict Form Sighting → Type 0
-  D v = Held judging (InsideForm N) v
-
-  either : (t : Bool) (v w : Verdict Form Sighting) → D v → D w → D (cond t v w)
-  either t v w p q = held-if judging (InsideForm N) t v w (λ e. p) (λ e. q)
-
-  held-decide : D (decide room val l)
-  unfolding decide
-  held-decide =
-      held-first judging (InsideForm N) N (l 1) _ _ (i 1) tt
-      (λ p hp. either (eqb (length (val p)) 0) _ _ tt
-      (held-first judging (InsideForm N) N (l 4) _ _ (i 4) tt
-      (λ a ha. either (eqb (length (val a)) 0) _ _ tt
-      (either (eqb (length (l 5)) 0) _ _ tt
-      (either (ltb room (length (l 5))) _ _ tt (hp, ha, first-inside N (l 6) (i 6), first-inside N (l 7) (i 7), i 5))))))
-
 pub accepted-inside : (m : List ℕ) (n room : ℕ) (q : Form Sighting) → replyOf m n room ≡ accepted q → InsideForm (length m) q
 unfolding replyOf
 accepted-inside m n room q =
     accepted-held judging (InsideForm (length m)) reader m (record { limit = n; room = room }) q
-    (λ st i. held-decide (length m) room (bodyIn m) (λ k. ofKind k st) (λ k. kind-inside (length m) k st i))
+    (λ st i. let every : (k : ℕ) → Inside (length m) (ofKind k st) = λ k. kind-inside (length m) k st i in
+    decide-held (length m) room (λ k. ofKind k st) every (InsideForm (length m))
+    (λ p a h r. (h .0, h .1 .0, first-inside (length m) (ofKind 6 st) (every 6), first-inside (length m) (ofKind 7 st) (every 7), h .1 .1)) (bodyIn m))

@@ -3,17 +3,18 @@ use Prim.Native.Nat.{ℕ}
 use mathlib.Core.Path.{_≡_}
 use mathlib.Core.List.{List, [], _∷_, map}
 use mathlib.Core.Bool.{Bool, cond, _&&_, _||_}
-use lib.ListN.{length}
+use lib.ListN.{length, take}
 use lib.Dec.{ltb, eqb}
 use Rattle.wire.specs.Bytes.{numberAt}
 use Rattle.wire.specs.Over.{over}
 use Rattle.nts.specs.Refusal.{nothing, code, Refused, toldRefusal}
 use Rattle.layout.specs.declared.Part.{Part}
-use Rattle.walk.specs.Walk.{Act, notes, refuses, Reader, Sighting}
+use Rattle.walk.specs.Walk.{Act, notes, refuses, Reader, Sighting, walk}
 use Rattle.walk.specs.Judge as judge
 use Rattle.walk.specs.Judge.{Verdict, no, yes, Judge, some, withFirst, bodyIn, partOf, readBy}
 use Rattle.walk.specs.Table.{tableReader}
 use Rattle.walk.specs.Rules as rule
+use Rattle.walk.specs.Found.{placeOf}
 use Rattle.places.specs.Places.{cells, roomOf}
 use Rattle.reply.specs.declared.KeyExchangeResponse.{KeyExchangeResponse}
 use Rattle.reply.specs.declared.Server.{Server}
@@ -21,6 +22,7 @@ use Rattle.reply.specs.declared.Server.the-variants as server
 use Rattle.reply.specs.declared.Port.{Port}
 use Rattle.reply.specs.declared.Port.the-variants as port
 use Rattle.reply.specs.declared.Answer.{Answer}
+use Rattle.reply.specs.declared.Judged.{Judged}
 use Rattle.reply.specs.declared.Answer.the-variants as answer
 
 -- ---- in record order
@@ -144,7 +146,14 @@ cookiesOf (judge.accepted (reply p a s t k c)) = c
 unfoldable pub tableAfter : judge.Answer Form → List ℕ → List ℕ
 tableAfter x table = over (cells (cookiesOf x)) table
 
--- the reader's contract: what it answers, and the table afterwards
+-- ---- the contracts
+
+-- what is answered with room for so many cookies, and the place of the record at which the walk stopped
+pub record Judges (m : List ℕ) (n room : ℕ) (r : Judged) : Type 0 where
+  pub says : toldAnswer (r .answer) ≡ toldBy m (replyOf m n room)
+  pub stopped : r .place ≡ placeOf (walk reader [] 0 0 (take n m))
+
+-- what the reader answers, and the table afterwards
 pub record Reads (m : List ℕ) (n : ℕ) (table : List ℕ) (r : Answer) (table′ : List ℕ) : Type 0 where
   pub says : toldAnswer r ≡ toldBy m (replyOf m n (roomOf table))
   pub left : table′ ≡ tableAfter (replyOf m n (roomOf table)) table

@@ -21,7 +21,7 @@ ghost use Rattle.walk.specs.Judge.{bodyIn, placed};
 ghost use Rattle.walk.specs.Found.{toldIn, Walks};
 ghost use Rattle.walk.specs.Code.{Fits};
 ghost use Rattle.reply.specs.Reply as reply;
-ghost use Rattle.reply.specs.Reply.{rules, toldServer, toldPort, toldBy, toldAnswer, Reads};
+ghost use Rattle.reply.specs.Reply.{rules, toldServer, toldPort, toldBy, toldAnswer, Judges, Reads};
 ghost use Rattle.reply.specs.Code.{numberIn, sentIn, acceptedIn, cookiesIn};
 
 // The server's name, where one was sent: a part of the message.
@@ -51,8 +51,14 @@ pub enum Answer {
     Refused(Refusal),
 }
 
+// An answer, and the place of the record at which the walk stopped: the end record, or the one refused.
+pub struct Judged {
+    pub answer: Answer,
+    pub place: usize,
+}
+
 // What is done with a record, by its kind.
-const RULES: [u8; 15] = [
+pub const RULES: [u8; 15] = [
     ENDING, // 0 end
     SINGLE, // 1 protocols
     TOLD, // 2 error
@@ -76,20 +82,34 @@ impl KeyExchangeResponse {
     pub fn parse(message: &[u8], limit: u16, table: &mut [u16]) -> Answer
         ensures { λ r. ⌜ Reads (now (message .entry)) limit (now (table .entry)) r (now (table .exit)) ⌝ }
     {
+        let judged = KeyExchangeResponse::judge(message, limit, table.len() / 2);
+        let answer = judged.answer;
+        let place = judged.place;
+        let count = cookies_in(answer);
+        if count == 0 {
+            return answer;
+        }
+        places::fill(&message[0..place], NtsRecord::NEW_COOKIE, count, table);
+        answer
+    }
+
+    // What `parse` answers with room for so many cookies, and where the walk stopped.
+    pub fn judge(message: &[u8], limit: u16, room: usize) -> Judged
+        ensures { λ r. ⌜ Judges (now (message .entry)) limit room r ⌝ }
+    {
         let mut cells = [0u16; 45];
         let walked = walk_all(message, limit, &mut cells);
         let place = walked.place;
         let stop = walked.stop;
         match stop {
-            Stop::End => {
-                let answer = decide(message, &cells, place, table.len() / 2);
-                let cookies = cookies_in(answer);
-                if cookies != 0 {
-                    places::fill(&message[0..place], NtsRecord::NEW_COOKIE, cookies, table);
-                }
-                answer
-            }
-            Stop::Refused(error) => refused(error, place),
+            Stop::End => Judged {
+                answer: decide(message, &cells, place, room),
+                place,
+            },
+            Stop::Refused(error) => Judged {
+                answer: refused(error, place),
+                place,
+            },
         }
     }
 }

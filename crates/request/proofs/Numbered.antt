@@ -1,6 +1,6 @@
--- A request is refused with 1 to 7 and no other number, and what stands beside it has sixteen bits, where the message is bytes.
+-- A request is refused with 1 to 7 and no other number; 5 alone has a number beside it, of sixteen bits, where the message is bytes.
 -- Assumes nothing.
-use mathlib.Core.Path.{_≡_}
+use mathlib.Core.Path.{_≡_, refl}
 use mathlib.Core.List.{List}
 use mathlib.Core.Bool.{_&&_, _||_}
 use Prim.Native.Nat.{ℕ, _/_}
@@ -18,16 +18,16 @@ use Rattle.request.specs.Request.{act, reader, Form, keyed, fixedBy, dec
 module _ (P : ℕ → Type 0) (p : P 1 × P 2 × P 3 × P 4 × P 5 × P 6 × P 7) where
   act-numbered : (k : ℕ) (b : List ℕ) → ActBy P b (act k b)
   unfolding act
-  act-numbered k b = act-if P b (eqb k 2 || eqb k 3 || eqb k 5) _ _ (bare P b 4 (p .3)) (act-if P b (eqb k 6 || eqb k 7) passes notes tt tt)
+  act-numbered k b = act-if P b (eqb k 2 || eqb k 3 || eqb k 5) _ _ (bare P b 4 refl (p .3)) (act-if P b (eqb k 6 || eqb k 7) passes notes tt tt)
 
   module _ (m : List ℕ) where
     four : Numbered P m 4 nothing
-    four = bare P m 4 (p .3)
+    four = bare P m 4 refl (p .3)
 
     keyed-numbered : (x : Sighting) (d : Described) (half : ℕ) (f : Form Sighting) → VerdictBy P m (keyed d (numberAt (bodyIn m x) 0) half f)
     unfolding keyed
-    keyed-numbered x unknown half f = record { one = p .4; beside = λ h. number-small (bodyIn m x) (small-part m (x .len) (x .start) h) }
-    keyed-numbered x (known n size) half f = verdict-if P m (eqb half size) _ _ tt (bare P m 6 (p .5))
+    keyed-numbered x unknown half f = record { one = p .4; fits = refl; beside = λ h. number-small (bodyIn m x) (small-part m (x .len) (x .start) h) }
+    keyed-numbered x (known n size) half f = verdict-if P m (eqb half size) _ _ tt (bare P m 6 refl (p .5))
 
     decide-numbered : (room : ℕ) (l : ℕ → List Sighting) → VerdictBy P m (decide room (bodyIn m) l)
     unfolding decide fixedBy
@@ -35,7 +35,7 @@ module _ (P : ℕ → Type 0) (p : P 1 × P 2 × P 3 × P 4 × P 5 × P 6 × P 7
         verdict-if P m (some (l 9) || some (l 10)) _ _
         (verdict-first P m (l 14) _ _ four (λ u. verdict-if P m (some (l 12) || some (l 1) || some (l 4)) _ _ four tt))
         (verdict-first P m (l 12) _ _
-        (verdict-first P m (l 1) _ _ four (λ q. verdict-first P m (l 4) _ _ four (λ a. verdict-if P m (ltb room (length (l 13))) _ _ (bare P m 7 (p .6)) tt)))
+        (verdict-first P m (l 1) _ _ four (λ q. verdict-first P m (l 4) _ _ four (λ a. verdict-if P m (ltb room (length (l 13))) _ _ (bare P m 7 refl (p .6)) tt)))
         (λ x. verdict-first P m (l 14) _ _ four
         (λ u. verdict-first P m (l 1) _ _ four
         (λ q. verdict-first P m (l 4) _ _ four

@@ -63,7 +63,7 @@ pub struct Judged {
 }
 
 // What is done with a record, by its kind.
-const RULES: [u8; 15] = [
+pub const RULES: [u8; 15] = [
     ENDING, // 0 end
     ONCE, // 1 protocols
     REFUSED, // 2 error

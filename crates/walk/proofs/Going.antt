@@ -2,8 +2,8 @@
 -- Assumes nothing.
 use mathlib.Core.Path.{_≡_, refl, sym, ap, _∙_}
 use mathlib.Core.List.{List, [], _∷_, _++_, map, append-assoc, append-nil}
-use mathlib.Core.Bool.{Bool, true, false, cond}
-use Prim.Native.Nat.{ℕ, zero, suc, _+_, _<_, _≤_}
+use mathlib.Core.Bool.{Bool, true, cond}
+use Prim.Native.Nat.{ℕ, _+_, _<_, _≤_}
 use native.Mathlib.Omega.{arith}
 use lib.ListN.{length, getD, drop, length-drop, length-append, length-map}
 use lib.Seq.{drop-drop}
@@ -19,7 +19,7 @@ use Rattle.record.specs.declared.Looked.{Looked}
 use Rattle.record.specs.declared.Looked.the-variants as looked
 use Rattle.record.proofs.Inverse.{whole-was, broken-was}
 use Rattle.record.proofs.Read.{look-inside}
-use Rattle.walk.specs.Walk.{Reader, Sighting, stopped, ended, judge, step, faultIn, walk}
+use Rattle.walk.specs.Walk.{Reader, Sighting, stopped, ended, step, faultIn, walk}
 use Rattle.walk.specs.Judge.{ofKind}
 use Rattle.walk.specs.Table.{known}
 use Rattle.walk.specs.Rules.{readerOf}
@@ -32,7 +32,7 @@ use Rattle.walk.specs.declared.Verdict.{Verdict}
 use Rattle.walk.specs.declared.Verdict.the-variants.{On, End, Stop}
 use Rattle.walk.proofs.Unroll.{after, unroll, onward, unroll-shown}
 use Rattle.walk.proofs.Looking.{slot-below, Asks, asks}
-use Rattle.walk.proofs.Meeting.{stepOf, moreOf, step-is, end-unnoted}
+use Rattle.walk.proofs.Meeting.{stepOf, moreOf, step-is, step-fault, end-unnoted}
 use Rattle.walk.proofs.Standing.{Kept, kept-start, kept-more, stands-more, has-count, count-few}
 
 map-more : (l : List Mark) (x : Mark) → map counted l ++ (counted x ∷ []) ≡ map counted (l ++ (x ∷ []))
@@ -108,12 +108,7 @@ module _ (rules s : List ℕ) where
 
   -- a fault stops the walk at its record
   walk-fault : (st : List Sighting) (at : ℕ) (t : List ℕ) → (fault t ≡ 0 → ⊥) → walk R st at 0 t ≡ stopped (record { number = fault t; beside = nothing; place = at })
-  unfolding step judge faultIn fault
-  walk-fault st at t n = unroll R st at t ∙ go (fault t) refl
-    where
-      go : (f : ℕ) → fault t ≡ f → after (judge R st at t f) (λ st′. walk R st′ (at + (4 + size t)) 0 (drop (4 + size t) t)) ≡ stopped (record { number = f; beside = nothing; place = at })
-      go zero e = absurd (n e)
-      go (suc f) e = refl
+  walk-fault st at t n = unroll R st at t ∙ rw (step-fault rules st at t n)
 
   shown-fault : (st : List Sighting) (at : ℕ) (t : List ℕ) → (fault t ≡ 0 → ⊥) → shown R st at 0 t ≡ []
   unfolding faultIn fault

@@ -13,6 +13,8 @@ pub mod Looking
 pub mod Meeting
 pub mod Standing
 pub mod Going
+pub mod Bits
+pub mod Marks
 pub mod Tables
 pub mod Like
 pub mod Answered

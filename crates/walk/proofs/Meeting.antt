@@ -106,6 +106,15 @@ module _ (rules : List ℕ) (at : ℕ) (t : List ℕ) (z : fault t ≡ 0) (x : A
           ∙ ap (stepOf at (size t) st (moreOf rules at (kind t) (size t)))
           (sym (verdict-unknown (getD rules (x .slot) 0) x (critical t) before (size t) (l .slot ∙ ap (λ (b : Bool). cond b (kind t) 11) h) (l .bit)))
 
+-- a record that does not read stops it
+pub step-fault : (rules : List ℕ) (st : List Sighting) (at : ℕ) (t : List ℕ) → (fault t ≡ 0 → ⊥) → step (readerOf rules) st at t ≡ stops (stopped (record { number = fault t; beside = nothing; place = at }))
+unfolding step judge faultIn fault
+step-fault rules st at t n = go (fault t) refl
+  where
+    go : (f : ℕ) → fault t ≡ f → judge (readerOf rules) st at t f ≡ stops (stopped (record { number = f; beside = nothing; place = at }))
+    go zero e = absurd (n e)
+    go (suc f) e = refl
+
 -- a record that ends the walk is of a kind that is not noted
 at-most-on : (n limit : ℕ) → (atMost n limit ≡ End → ⊥)
 unfolding atMost

@@ -23,7 +23,7 @@ use Rattle.walk.proofs.Unroll.{after, unroll, onward, unroll-shown}
 -- ---- where a walk stops
 
 -- a step that stops does so at its record
-step-place : (R : Reader) (st : List Sighting) (at : ℕ) (t : List ℕ) (o : Outcome) → step R st at t ≡ stops o → placeOf o ≡ at
+pub step-place : (R : Reader) (st : List Sighting) (at : ℕ) (t : List ℕ) (o : Outcome) → step R st at t ≡ stops o → placeOf o ≡ at
 unfolding step judge meet
 step-place R st at t o e = by-fault (faultIn R t) e
   where

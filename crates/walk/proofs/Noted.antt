@@ -113,6 +113,25 @@ walk-grows R st at zero (b ∷ s) p next st′ e = go (step R st at (b ∷ s)) r
         let m = ih st₁ q in
         (w .more ++ m .0, m .1 ∙ ap (λ (l : List Sighting). l ++ m .0) (w .grown) ∙ append-assoc st (w .more) (m .0))
 
+-- each record noted takes a byte at least
+went-few : (R : Reader) (st st′ : List Sighting) (at : ℕ) (t : List ℕ) → Went R st st′ at t → length st′ ≤ length st + 1
+went-few R st st′ at t w = omega (arith, ap length (w .grown) ∙ length-append st (w .more), go (w .more) (w .only))
+  where
+    go : (m : List Sighting) → (m ≡ []) ⊎ (m ≡ sightingOf at t ∷ []) → length m ≤ 1
+    go m (inl e) = rw e (omega arith)
+    go m (inr e) = rw e (omega arith)
+
+pub walk-few : (R : Reader) (st : List Sighting) (at k : ℕ) (s : List ℕ) (p next : ℕ) (st′ : List Sighting) → walk R st at k s ≡ ended p next st′ → length st′ + at ≤ length st + p
+unfolding walk
+walk-few R st at k [] p next st′ e = let o : _≡_ {A = ℕ} 0 1 = cc in absurd (omega arith)
+walk-few R st at (suc k) (b ∷ s) p next st′ e = walk-few R st at k s p next st′ e
+walk-few R st at zero (b ∷ s) p next st′ e = go (step R st at (b ∷ s)) refl e (λ st₁ g. walk-few R st₁ (at + (4 + size (b ∷ s))) (3 + size (b ∷ s)) s p next st′ g)
+  where
+    go : (y : Step) → step R st at (b ∷ s) ≡ y → _≡_ {A = Outcome} (elim y as (λ (x : Step). Outcome) [ stops o ↦ o | goes st₁ ↦ walk R st₁ (at + (4 + size (b ∷ s))) (3 + size (b ∷ s)) s ]) (ended p next st′)
+        → ((st₁ : List Sighting) → walk R st₁ (at + (4 + size (b ∷ s))) (3 + size (b ∷ s)) s ≡ ended p next st′ → length st′ + (at + (4 + size (b ∷ s))) ≤ length st₁ + p) → length st′ + at ≤ length st + p
+    go (stops o) y q ih = let h = step-ended R st st′ at p next (b ∷ s) (cc) in omega (arith, h .0, ap length (h .1))
+    go (goes st₁) y q ih = omega (arith, ih st₁ q, went-few R st st₁ at (b ∷ s) (step-went R st st₁ at (b ∷ s) y))
+
 -- ---- by kind
 
 pub kind-append : (k : ℕ) (a b : List Sighting) → ofKind k (a ++ b) ≡ ofKind k a ++ ofKind k b

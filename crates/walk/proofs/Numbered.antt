@@ -1,5 +1,5 @@
--- A reader refuses with no other numbers than 1, 2, 3, 4 and those of its acts and of its decision; and what stands beside a number has sixteen bits, where the
--- message is bytes. A fault is 1 or 2, an unknown record with its bit set is 3, and a record that may stand once and stands there twice is 4.
+-- A reader refuses with no other numbers than 1, 2, 3, 4 and those of its acts and of its decision; 5, 11 and 12 have a number beside them, and no other has; and that
+-- has sixteen bits, where the message is bytes. A fault is 1 or 2, an unknown record with its bit set is 3, and a record that may stand once and stands there twice is 4.
 -- Assumes nothing.
 use mathlib.Core.Path.{_≡_, refl}
 use mathlib.Core.List.{List, [], _∷_}
@@ -83,14 +83,24 @@ record-few s = few (ltb (length s) 4) 1 _ (omega arith) (fault-few (shapeOf (kin
 
 -- ---- what is said of a refusal
 
+-- 5, 11 and 12 are told with a number beside them ..
+abbrev pub coded : ℕ → Bool
+coded n = eqb n 5 || eqb n 11 || eqb n 12
+
+-- .. and no other is
+abbrev pub Fits : ℕ → Beside → Type 0
+Fits n nothing = coded n ≡ false
+Fits n (code c) = coded n ≡ true
+
 -- the number n, with b beside it, told of the bytes s: P says of a number that it may be told
 pub record Numbered (P : ℕ → Type 0) (s : List ℕ) (n : ℕ) (b : Beside) : Type 0 where
   pub one : P n
+  pub fits : Fits n b
   pub beside : Small s → Sixteen b
 
 module _ (P : ℕ → Type 0) where
-  pub bare : (s : List ℕ) (n : ℕ) → P n → Numbered P s n nothing
-  bare s n p = record { one = p; beside = λ h. tt }
+  pub bare : (s : List ℕ) (n : ℕ) → coded n ≡ false → P n → Numbered P s n nothing
+  bare s n f p = record { one = p; fits = f; beside = λ h. tt }
 
   -- .. as an act, a verdict, a step or a walk refuses
   abbrev pub ActBy : List ℕ → Act → Type 0
@@ -120,7 +130,7 @@ module _ (P : ℕ → Type 0) where
   -- a table over the known kinds, and the rule for the unknown ones
   pub act-by : P 3 → (f : ℕ → List ℕ → Act) → ((k : ℕ) (b : List ℕ) → ActBy b (f k b)) → (k : ℕ) (c : Bool) (b : List ℕ) → ActBy b (actBy f k c b)
   unfolding actBy
-  act-by three f h k c b = act-if b (known k) _ _ (act-if b (eqb k 0) ends _ tt (h k b)) (act-if b c _ passes (bare b 3 three) tt)
+  act-by three f h k c b = act-if b (known k) _ _ (act-if b (eqb k 0) ends _ tt (h k b)) (act-if b c _ passes (bare b 3 refl three) tt)
 
   module _ {Q : Type 0 → Type 0} {A : Type 0} (s : List ℕ) where
     pub verdict-if : (t : Bool) (v w : Verdict Q A) → VerdictBy s v → VerdictBy s w → VerdictBy s (cond t v w)
@@ -134,7 +144,7 @@ module _ (P : ℕ → Type 0) where
   -- ---- a walk
 
   later : (b : ℕ) (s : List ℕ) (o : Outcome) → WalkBy s o → WalkBy (b ∷ s) o
-  later b s (stopped r) h = record { one = h .one; beside = λ z. h .beside (λ i. z (suc i)) }
+  later b s (stopped r) h = record { one = h .one; fits = h .fits; beside = λ z. h .beside (λ i. z (suc i)) }
   later b s (ended at next st) h = tt
 
   module _ (p : P 1 × P 2 × P 4) (R : Reader) (acts : (k : ℕ) (c : Bool) (b : List ℕ) → ActBy b (R .act k c b)) where
@@ -143,24 +153,24 @@ module _ (P : ℕ → Type 0) where
     step-by st at s = by-fault (faultIn R s) (few (ltb (length s) 4) 1 _ (omega arith) (fault-few (R .shape (kind s)) (size s) (there s)))
       where
         noted : (t : Bool) (l : List Sighting) → StepBy s (cond t (stops (stopped (record { number = 4; beside = nothing; place = at }))) (goes l))
-        noted true l = bare s 4 (p .2)
+        noted true l = bare s 4 refl (p .2)
         noted false l = tt
 
         by-act : (a : Act) → ActBy (there s) a → StepBy s (meet R st at (kind s) (size s) a)
         by-act ends h = tt
         by-act passes h = tt
         by-act notes h = noted (R .once (kind s) && has (kind s) st) _
-        by-act (refuses n b) h = record { one = h .one; beside = λ z. h .beside (small-part s (size s) 4 z) }
+        by-act (refuses n b) h = record { one = h .one; fits = h .fits; beside = λ z. h .beside (small-part s (size s) 4 z) }
 
         by-fault : (f : ℕ) → f ≤ 2 → StepBy s (judge R st at s f)
         by-fault zero l = by-act (actIn R s) (acts (kind s) (critical s) (there s))
-        by-fault (suc zero) l = bare s 1 (p .0)
-        by-fault (suc (suc zero)) l = bare s 2 (p .1)
+        by-fault (suc zero) l = bare s 1 refl (p .0)
+        by-fault (suc (suc zero)) l = bare s 2 refl (p .1)
         by-fault (suc (suc (suc f))) l = absurd (omega arith)
 
     walk-by : (st : List Sighting) (at k : ℕ) (s : List ℕ) → WalkBy s (walk R st at k s)
     unfolding walk
-    walk-by st at k [] = bare [] 1 (p .0)
+    walk-by st at k [] = bare [] 1 refl (p .0)
     walk-by st at (suc k) (b ∷ s) = later b s (walk R st at k s) (walk-by st at k s)
     walk-by st at zero (b ∷ s) =
         go (step R st at (b ∷ s)) (step-by st at (b ∷ s)) (λ st′. walk-by st′ (at + (4 + size (b ∷ s))) (3 + size (b ∷ s)) s)
@@ -191,7 +201,7 @@ module _ (P : ℕ → Type 0) where
         go : (o : Outcome) → WalkBy (take (u .limit) m) o → finish D u m o ≡ refused r → Numbered P m (r .number) (r .beside)
         go (stopped x) h q =
             let z : r ≡ x = cc in
-            rw z (record { one = h .one; beside = λ s. h .beside (small-part m (u .limit) 0 s) })
+            rw z (record { one = h .one; fits = h .fits; beside = λ s. h .beside (small-part m (u .limit) 0 s) })
         go (ended at next st) h q = decided at (D .decide u (bodyIn m) (λ k. ofKind k st)) (decides (λ k. ofKind k st)) q
 
   -- ---- the walk by a table
@@ -200,8 +210,8 @@ module _ (P : ℕ → Type 0) where
     tell-by : (k : ℕ) (b : List ℕ) → ActBy b (tellAct k b)
     unfolding tellAct
     tell-by k b =
-        act-if b (eqb k 2) _ _ (record { one = p .4; beside = number-small b })
-        (act-if b (eqb k 3) _ _ (record { one = p .5; beside = number-small b }) (bare b 4 (p .3)))
+        act-if b (eqb k 2) _ _ (record { one = p .4; fits = refl; beside = number-small b })
+        (act-if b (eqb k 3) _ _ (record { one = p .5; fits = refl; beside = number-small b }) (bare b 4 refl (p .3)))
 
     rule-by : (r k : ℕ) (b : List ℕ) → ActBy b (ruleAct r k b)
     unfolding ruleAct
@@ -209,12 +219,12 @@ module _ (P : ℕ → Type 0) where
         act-if b (eqb r rule.ending) ends _ tt
         (act-if b (eqb r rule.passed) passes _ tt
         (act-if b (eqb r rule.noted || eqb r rule.once) notes _ tt
-        (act-if b (eqb r rule.single) _ _ (act-if b (ltb 2 (length b)) _ notes (bare b 4 (p .3)) tt)
-        (act-if b (eqb r rule.told) _ _ (tell-by k b) (bare b 4 (p .3))))))
+        (act-if b (eqb r rule.single) _ _ (act-if b (ltb 2 (length b)) _ notes (bare b 4 refl (p .3)) tt)
+        (act-if b (eqb r rule.told) _ _ (tell-by k b) (bare b 4 refl (p .3))))))
 
     rules-by : (k : ℕ) (c : Bool) (b : List ℕ) → ActBy b (actAt rules k c b)
     unfolding actAt
-    rules-by k c b = act-if b (known k) _ _ (rule-by (getD rules k 0) k b) (act-if b c _ passes (bare b 3 (p .2)) tt)
+    rules-by k c b = act-if b (known k) _ _ (rule-by (getD rules k 0) k b) (act-if b c _ passes (bare b 3 refl (p .2)) tt)
 
     pub walk-numbered : (s : List ℕ) (r : Refused) → walk (readerOf rules) [] 0 0 s ≡ stopped r → Numbered P s (r .number) (r .beside)
     walk-numbered = stopped-numbered (p .0, p .1, p .3) (readerOf rules) rules-by

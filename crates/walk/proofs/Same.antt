@@ -13,6 +13,9 @@ use Rattle.nts.specs.declared.Refusal.{Refusal}
 use Rattle.nts.proofs.Apart.{refusal-apart}
 use Rattle.walk.specs.Walk.{Sighting}
 use Rattle.walk.specs.Found.{entryIn, Stands, Way, wayRefused, wayBy}
+use Rattle.walk.specs.Met.{toldPassed}
+use Rattle.walk.specs.declared.Passed.{Passed}
+use Rattle.walk.specs.declared.Passed.the-variants as passed
 use Rattle.walk.specs.declared.Seen.{Seen}
 use Rattle.walk.specs.declared.Stop.the-variants as stop
 use Rattle.walk.specs.declared.Walked.{Walked}
@@ -20,6 +23,7 @@ use Rattle.walk.proofs.cut_at.Reads as cut-at
 use Rattle.walk.proofs.walk.Reads as walk
 use Rattle.walk.proofs.found.Reads as found
 use Rattle.walk.proofs.is_there.Reads as is-there
+use Rattle.walk.proofs.pass.Reads as pass
 use Rattle.walk.proofs.Seen.body.Reads as body
 
 -- ---- the cells
@@ -67,6 +71,14 @@ walked-apart x y e = go (x .stop) (y .stop) refl refl e
         let same : x .stop ≡ y .stop = p ∙ ap (λ (u : Refusal). stop.Refused (u .error)) r ∙ sym q in
         λ i. record { place = at i; stop = same i }
 
+-- ---- whether it goes on
+
+passed-apart : (x y : Passed) → toldPassed x ≡ toldPassed y → x ≡ y
+passed-apart (passed.On m) (passed.On n) e = let p : m ≡ n = cc in ap passed.On p
+passed-apart (passed.On m) passed.Stopped e = let z : _≡_ {A = ℕ} 0 1 = cc in absurd (omega arith)
+passed-apart passed.Stopped (passed.On n) e = let z : _≡_ {A = ℕ} 0 1 = cc in absurd (omega arith)
+passed-apart passed.Stopped passed.Stopped e = refl
+
 -- ---- the functions
 
 pub cut-at-same : (κs : _) (a : _) (r r′ : _) (e e′ : _) → cut-at.Learnt κs a r e → cut-at.Learnt κs a r′ e′ → (now r ≡ now r′) × (r .ptr ≡ r′ .ptr)
@@ -80,6 +92,9 @@ found-same κs a r r′ e e′ p q = p ∙ sym q
 
 pub is-there-same : (κs : _) (a : _) (r r′ : _) (e e′ : _) → is-there.Learnt κs a r e → is-there.Learnt κs a r′ e′ → r ≡ r′
 is-there-same κs a r r′ e e′ p q = p ∙ sym q
+
+pub pass-same : (κs : _) (a : _) (r r′ : _) (e e′ : _) → pass.Learnt κs a r e → pass.Learnt κs a r′ e′ → r ≡ r′
+pass-same κs a r r′ e e′ p q = passed-apart r r′ (p ∙ sym q)
 
 pub Seen-body-same : (κs : _) (a : _) (r r′ : _) (e e′ : _) → body.Learnt κs a r e → body.Learnt κs a r′ e′ → r ≡ r′
 Seen-body-same κs a r r′ e e′ p q = p ∙ sym q

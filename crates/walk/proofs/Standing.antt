@@ -185,7 +185,7 @@ unfolding Kept
 has-count rules st sh f k h s kn l nt = has-some k st ∙ ap some (h k kn nt) ∙ sym (none-count (ofKind k sh)) ∙ ap (λ (v : Seen). ltb 0 (v .count)) (sym (s .each k l))
 
 -- there are no more records of a kind than records
-few-kind : (k : ℕ) (l : List Sighting) → length (ofKind k l) ≤ length l
+pub few-kind : (k : ℕ) (l : List Sighting) → length (ofKind k l) ≤ length l
 few-kind k [] = omega arith
 few-kind k (x ∷ l) = go (eqb (x .of) k) (few-kind k l)
   where

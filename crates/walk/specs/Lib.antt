@@ -6,3 +6,4 @@ pub mod Rules
 pub mod Shown
 pub mod Found
 pub mod Code
+pub mod Met

@@ -8,12 +8,15 @@ use record::NtsRecord;
 use record::Part;
 ghost use mathlib.Core.Path.{_≡_};
 ghost use Prim.Native.Nat.{_+_, _<_, _≤_, _^_};
-ghost use lib.ListN.{length, take};
+ghost use lib.ListN.{length, take, drop};
 ghost use Rattle.wire.specs.Bytes.{numberAt};
 ghost use Rattle.walk.specs.Walk.{CutOf};
 ghost use Rattle.walk.specs.Judge.{some};
 ghost use Rattle.walk.specs.Shown.{slotOf};
+ghost use mathlib.Core.Bool.{cond};
+ghost use Rattle.walk.specs.Rules.{readerOf};
 ghost use Rattle.walk.specs.Found.{entryIn, toldIn, Walks};
+ghost use Rattle.walk.specs.Met.{isMet, withMet, passing, toldPassed};
 ghost use Rattle.walk.specs.Code.{errorOf, asked, atMost, ruledOf, unknownOf, verdictOf, moreIn, Met, Few, lookedOf, Steps};
 
 // What a table's entry says of a record of its kind: it ends the message; it is passed over; it is noted; it is noted, and a second one is refused
@@ -68,6 +71,12 @@ pub enum Stop {
 pub struct Walked {
     pub place: usize,
     pub stop: Stop,
+}
+
+// Whether a walk goes on past a record: with its kind met as well, a bit a kind; or it stops with it.
+pub enum Passed {
+    On(u16),
+    Stopped,
 }
 
 // What one record does to a walk.
@@ -126,6 +135,48 @@ pub fn is_there(cells: &[u16; 45], kind: u16) -> bool
         return false;
     }
     true
+}
+
+// One record of a walk that has met the kinds in `met` before it: the one at a place, by a table. So a walk can be taken up again where it was left.
+pub fn pass(rules: &[u8; 15], bytes: &[u8], at: usize, met: u16) -> Passed
+    ensures { λ r. ⌜ toldPassed r ≡ passing (readerOf (now (rules .entry))) met (drop at (now (bytes .entry))) ⌝ }
+{
+    let answer = record::look(bytes, at);
+    let Looked::Whole(seen) = answer else {
+        return Passed::Stopped;
+    };
+    let slot = slot_of(seen.kind);
+    let start = at + NtsRecord::HEADER;
+    let verdict = judged(
+        rules[slot],
+        slot,
+        seen.critical,
+        met_before(met, slot),
+        bytes,
+        start,
+        seen.size,
+    );
+    match verdict {
+        Verdict::On => Passed::On(with_met(met, slot)),
+        Verdict::End => Passed::Stopped,
+        Verdict::Stop(_) => Passed::Stopped,
+    }
+}
+
+// 1 where a record of the kind was met, and 0 where none was.
+fn met_before(met: u16, slot: usize) -> u16
+    requires { ⌜ slot < 15 ⌝ }
+    ensures { λ r. ⌜ r ≡ cond (isMet met slot) 1 0 ⌝ }
+{
+    (met >> slot) & 1
+}
+
+// The kinds met, and this one.
+fn with_met(met: u16, slot: usize) -> u16
+    requires { ⌜ slot < 15 ⌝ }
+    ensures { λ r. ⌜ r ≡ withMet met slot ⌝ }
+{
+    met | (1u16 << slot)
 }
 
 fn walk_cut(rules: &[u8; 15], cut: &[u8], cells: &mut [u16; 45]) -> Walked

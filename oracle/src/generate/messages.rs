@@ -21,6 +21,8 @@ pub struct Family {
     pub largest: Option<u8>,
     /// The op under a limit with a table.
     pub limited: u8,
+    /// The op that is fed in pieces.
+    pub fed: u8,
     /// The kind of the records that fill the table.
     pub entry: u16,
     /// Kinds that a message may have any number of.
@@ -63,20 +65,26 @@ pub fn messages(family: &Family, seed: u64, count: u64, out: &mut impl Write) ->
     full_tables(family, &mut random, out)?;
     bad(family, &mut random, out)?;
     for _ in 0..count {
-        let (mut records, _) = (family.message)(&mut random);
-        if random.once_in(2) {
-            mutate(&mut random, &mut records);
-        }
-        let mut message = records.concat();
-        if random.once_in(6) {
-            spoil(&mut random, &mut message);
-        }
-        if random.once_in(4) {
-            message.extend_from_slice(&good(&mut random));
-        }
+        let (message, _) = one(family, &mut random);
         one_op(family, &mut random, out, &message)?;
     }
     Ok(())
+}
+
+/// A message, whole or with something altered, and how many records of it were made to fill the table.
+pub fn one(family: &Family, random: &mut Random) -> (Vec<u8>, usize) {
+    let (mut records, entries) = (family.message)(random);
+    if random.once_in(2) {
+        mutate(random, &mut records);
+    }
+    let mut message = records.concat();
+    if random.once_in(6) {
+        spoil(random, &mut message);
+    }
+    if random.once_in(4) {
+        message.extend_from_slice(&good(random));
+    }
+    (message, entries)
 }
 
 /// One of the ops; a limit is mostly around the message's length and a table around its entries.
@@ -217,7 +225,7 @@ fn every_room(family: &Family, random: &mut Random, out: &mut impl Write) -> io:
 }
 
 /// A message of exactly that length through its end record.
-fn of_length(family: &Family, random: &mut Random, length: usize) -> Vec<u8> {
+pub fn of_length(family: &Family, random: &mut Random, length: usize) -> Vec<u8> {
     let (mut records, _) = (family.message)(random);
     let end = records.pop().expect("an end record");
     let mut rest = length - end.len() - records.concat().len();

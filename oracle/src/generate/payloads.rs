@@ -1,4 +1,4 @@
-//! The payloads of ops g, n, a, p, P and k.
+//! The payloads of ops g, n, a, p, P and k, and of f and F.
 
 /// The tags of a tray's fields.
 pub const COOKIE: u8 = 1;
@@ -69,6 +69,23 @@ pub fn append(used: usize, cookie: &[u8], tray: &[u8]) -> Vec<u8> {
 /// Op k.
 pub fn request(protocols: &[u16], algorithms: &[u16], room: usize, used: usize, tray: &[u8]) -> Vec<u8> {
     [&counted(protocols)[..], &counted(algorithms), &long(room), &long(used), tray].concat()
+}
+
+/// Ops f and F: what a read is fed under, and whether the line is closed behind the pieces.
+#[derive(Clone, Copy)]
+pub struct Feed {
+    pub limit: usize,
+    pub cells: usize,
+    pub buffer: usize,
+    pub close: bool,
+}
+
+impl Feed {
+    pub fn payload<'a>(&self, pieces: impl IntoIterator<Item = &'a [u8]>) -> Vec<u8> {
+        let pieces: Vec<Vec<u8>> = pieces.into_iter().map(lent).collect();
+        let head = [&long(self.limit)[..], &half(self.cells), &long(self.buffer), &[u8::from(self.close)]].concat();
+        [head, half(pieces.len()).to_vec(), pieces.concat()].concat()
+    }
 }
 
 /// A plan, and the name that is lent with it.

@@ -14,6 +14,7 @@ pub const REPLIES: Family = Family {
     crates: b'y',
     largest: None,
     limited: b'l',
+    fed: b'F',
     entry: 5,
     repeated: &[5, 8, 15, 0x7fff],
     lists,

@@ -9,6 +9,7 @@ pub const REQUESTS: Family = Family {
     crates: b'q',
     largest: Some(b'Q'),
     limited: b'L',
+    fed: b'f',
     entry: 13,
     repeated: &[13, 6, 8, 15, 0x7fff],
     lists,

@@ -140,7 +140,8 @@ pub fn of_four(family: &Family, out: &mut impl Write) -> io::Result<()> {
     sequences(&(family.tokens)(), 4, each)
 }
 
-fn sequences(tokens: &[Vec<u8>], count: u32, each: &mut impl FnMut(&[&[u8]]) -> io::Result<()>) -> io::Result<()> {
+/// Each sequence of so many.
+pub fn sequences(tokens: &[Vec<u8>], count: u32, each: &mut impl FnMut(&[&[u8]]) -> io::Result<()>) -> io::Result<()> {
     for index in 0..tokens.len().pow(count) {
         let mut rest = index;
         let mut sequence = Vec::new();

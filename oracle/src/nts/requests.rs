@@ -1,13 +1,16 @@
 //! Reading a request with the crate's `Request::parse`.
 
+use tokio::io::AsyncRead;
+
+use super::NtsError;
+use super::feeding::{self, Fed, Feed, NO_LIMIT};
 use super::lines;
-use super::poll::now;
-use super::whole::{self, Accepted, Answer};
+use super::whole::{self, Accepted, Answer, at_once};
 use crate::corpus::{CELLS, CRATES_LIMIT, LARGEST_LIMIT};
 
 /// Op q: the crate's own file cuts the message.
 pub fn under_the_crates_limit(line: &mut Vec<u8>, message: &[u8]) {
-    whole::tell(line, verbatim(message), whole::cut(message, CRATES_LIMIT), CELLS);
+    whole::tell(line, at_once(message, verbatim), whole::cut(message, CRATES_LIMIT), CELLS);
 }
 
 /// Op Q.
@@ -24,21 +27,37 @@ pub fn under_a_limit(line: &mut Vec<u8>, payload: &[u8]) -> Option<()> {
 
 /// A cut message, read by the crate's own file where that would not cut it again, otherwise by the copy.
 fn tell(line: &mut Vec<u8>, message: &[u8], cells: usize) {
-    let answer = if message.len() <= CRATES_LIMIT { verbatim(message) } else { raised(message) };
-    whole::tell(line, answer, message, cells);
+    whole::tell(line, read_cut(message), message, cells);
+}
+
+fn read_cut(message: &[u8]) -> Answer {
+    if message.len() <= CRATES_LIMIT { at_once(message, verbatim) } else { at_once(message, raised) }
+}
+
+/// What is read of bytes that are all there. Under its own limit the crate's own file cuts them.
+pub fn read(bytes: &[u8], limit: usize) -> Answer {
+    if limit == CRATES_LIMIT { at_once(bytes, verbatim) } else { read_cut(whole::cut(bytes, limit)) }
+}
+
+/// What is read of bytes as they arrive, by the crate's own file under its own limit and under those below, otherwise by the
+/// copy.
+pub fn fed(feed: &Feed) -> Fed {
+    match feed.limit {
+        CRATES_LIMIT => feeding::fed(feed, NO_LIMIT, verbatim),
+        limit if limit < CRATES_LIMIT => feeding::fed(feed, limit as u64, verbatim),
+        limit => feeding::fed(feed, limit as u64, raised),
+    }
 }
 
 /// Reads a message with one of the two files; their types are apart, their text is the same.
 macro_rules! reader {
     ($name:ident, $file:ident) => {
-        fn $name(message: &[u8]) -> Answer {
+        async fn $name<R: AsyncRead + Unpin>(bytes: &mut R) -> Result<Accepted, NtsError> {
             use super::$file::Request;
 
-            let mut rest = message;
-            let answer = now(Request::parse(&mut rest));
-            let taken = message.len() - rest.len();
+            let request = Request::parse(bytes).await?;
             let mut line = Vec::new();
-            let result = answer.map(|request| match request {
+            Ok(match request {
                 Request::KeyExchange { algorithms, protocols, denied_servers } => {
                     lines::text(&mut line, "key-exchange protocols ");
                     lines::numbers(&mut line, protocols.iter().map(|&id| id.into()));
@@ -72,8 +91,7 @@ macro_rules! reader {
                     authenticated(&mut line, &authentication, keep_alive);
                     Accepted { line, entries: 0 }
                 }
-            });
-            Answer { result, taken }
+            })
         }
     };
 }

@@ -3,6 +3,7 @@
 
 use super::NtsError;
 use super::lines;
+use super::poll::now;
 use super::reading;
 use crate::corpus::CELLS;
 
@@ -30,6 +31,22 @@ pub struct Answer {
 pub struct Accepted {
     pub line: Vec<u8>,
     pub entries: usize,
+}
+
+/// What a reader answers to bytes that are all there.
+pub fn at_once<'a>(message: &'a [u8], read: impl AsyncFnOnce(&mut &'a [u8]) -> Result<Accepted, NtsError>) -> Answer {
+    let mut rest = message;
+    let result = now(read(&mut rest));
+    Answer { result, taken: message.len() - rest.len() }
+}
+
+/// The place of the record that an answer to a cut message was decided on: the one that is refused, or the end record.
+pub fn deciding(answer: &Answer, message: &[u8]) -> usize {
+    let place = match answer.result {
+        Err(NtsError::IO(_)) => unread(message).1,
+        _ => last_taken(message, answer.taken),
+    };
+    place as usize
 }
 
 /// Writes the line of an answer to a cut message.

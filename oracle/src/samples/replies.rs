@@ -12,7 +12,7 @@ const NINE_COOKIES: &str = "protocol algorithm cookie-empty cookie-empty cookie-
     cookie-empty cookie-empty cookie-empty cookie-empty end";
 
 /// Messages that are accepted or refused by the set of their records.
-const MESSAGES: [&str; 116] = [
+pub const MESSAGES: [&str; 116] = [
     // The least reply, its lists in other orders and with other bits, and what is not looked at.
     "",
     "end",

@@ -9,7 +9,7 @@ use crate::corpus::put;
 use crate::generate::limited;
 
 /// Messages that are accepted or refused by the set of their records.
-const MESSAGES: [&str; 102] = [
+pub const MESSAGES: [&str; 102] = [
     "",
     "end",
     "end-with-body",

@@ -1,11 +1,11 @@
--- `probe::reading::put_list` is safe: the index stays within the number of entries.
+-- `probe::records::put_list` is safe: the index stays within the number of entries.
 -- Assumes nothing.
 use mathlib.Core.Path.{_≡_}
 use Prim.Native.Nat.{_≤_, _-_}
 use lib.ListN.{length}
 use borrow.Author.Needs.{needs}
-use Rattle.probe.proofs.reading.put_list.Statement.{statement}
-use Rattle.probe.proofs.reading.put_list.Tie as tie
+use Rattle.probe.proofs.records.put_list.Statement.{statement}
+use Rattle.probe.proofs.records.put_list.Tie as tie
 
 abbrev Inv-loop : tie.InvT-loop
 Inv-loop kind out₀ at message list to₀ i₀ n out to i = (i ≤ n) × (length out ≡ length out₀)

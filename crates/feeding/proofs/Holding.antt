@@ -1,0 +1,176 @@
+-- The connection that a host's cells hold: what the tests of its cells say, and that it is put again as the same cells.
+-- Assumes nothing.
+use mathlib.Core.Path.{_≡_, refl, sym, ap, subst, _∙_}
+use mathlib.Core.Bool.{Bool, true, false, cond, _&&_, _||_}
+use mathlib.Core.List.{List, [], _∷_}
+use Prim.Native.Nat.{ℕ, _≤_, _<_}
+use native.Mathlib.Omega.{arith}
+use borrow.Author.Tests.{ltb-true, ltb-false, leb-true, eqb-true}
+use lib.Dec.{leb, ltb, eqb}
+use lib.ListN.{length}
+use Rattle.utf8.proofs.Tests.{never, upto, and-left, and-right}
+use Rattle.nts.specs.Refusal.{nothing, code, numberOf, besideOf, Refused, toldRefusal, errorIn}
+use Rattle.cells.specs.Cells.{besideNumber, cell}
+use Rattle.pieces.specs.Pieces.{Line, Standing, pending, accepted, refused}
+use Rattle.feeding.specs.Fed.{standingCells, lineCells, hasBeside, isStanding, isConnection, besideIn, standingIn, lineIn}
+use Rattle.feeding.specs.Code.{KeptLine, noLine, line, keptIn}
+
+-- ---- a refusal's number
+
+-- what holds of each of the sixteen numbers holds of a number from 1 to 16
+pub of-each : (P : ℕ → Type 0) → P 1 → P 2 → P 3 → P 4 → P 5 → P 6 → P 7 → P 8 → P 9 → P 10 → P 11 → P 12 → P 13 → P 14 → P 15 → P 16
+    → (n : ℕ) → 1 ≤ n → n ≤ 16 → P n
+of-each P p1 p2 p3 p4 p5 p6 p7 p8 p9 p10 p11 p12 p13 p14 p15 p16 n low high =
+    or 1 p1 low (λ l. or 2 p2 (omega arith) (λ l. or 3 p3 (omega arith) (λ l. or 4 p4 (omega arith) (λ l. or 5 p5 (omega arith) (λ l. or 6 p6 (omega arith)
+    (λ l. or 7 p7 (omega arith) (λ l. or 8 p8 (omega arith) (λ l. or 9 p9 (omega arith) (λ l. or 10 p10 (omega arith) (λ l. or 11 p11 (omega arith)
+    (λ l. or 12 p12 (omega arith) (λ l. or 13 p13 (omega arith) (λ l. or 14 p14 (omega arith) (λ l. or 15 p15 (omega arith) (λ l. is 16 p16 (omega arith) high)))))))))))))))
+  where
+    is : (k : ℕ) → P k → k ≤ n → n ≤ k → P n
+    is k p l g = let e : k ≡ n = omega arith in subst P e p
+
+    or : (k : ℕ) → P k → k ≤ n → (k < n → P n) → P n
+    or k p l f = upto k n (λ g. is k p l g) f
+
+error-number : (n x : ℕ) → 1 ≤ n → n ≤ 16 → numberOf (errorIn n x) ≡ n
+unfolding errorIn
+error-number n x = of-each (λ k. numberOf (errorIn k x) ≡ k) refl refl refl refl refl refl refl refl refl refl refl refl refl refl refl refl n
+
+error-beside : (n x : ℕ) → 1 ≤ n → n ≤ 16 → besideOf (errorIn n x) ≡ besideIn n x
+unfolding errorIn hasBeside
+error-beside n x = of-each (λ k. besideOf (errorIn k x) ≡ besideIn k x) refl refl refl refl refl refl refl refl refl refl refl refl refl refl refl refl n
+
+-- the refusal that has a number tells it, with what is beside it
+pub error-told : (n x p : ℕ) → 1 ≤ n → n ≤ 16 → toldRefusal (record { error = errorIn n x; place = p }) ≡ record { number = n; beside = besideIn n x; place = p }
+error-told n x p low high = λ j. record { number = error-number n x low high j; beside = error-beside n x low high j; place = p }
+
+-- ---- the four cells of an answer
+
+-- what the tests say where they hold: there is no refusal, or there is one
+pub data Sound (s n x p : ℕ) : Type 0 where
+  unrefused : s < 2 → n ≡ 0 → x ≡ 0 → p ≡ 0 → Sound s n x p
+  refusing : s ≡ 2 → 1 ≤ n → n ≤ 16 → x ≤ 65535 → (eqb x 0 || hasBeside n) ≡ true → p ≤ 4294967295 → Sound s n x p
+
+pub standing-sound : (s n x p : ℕ) → isStanding s n x p ≡ true → Sound s n x p
+unfolding isStanding
+standing-sound s n x p e = go (ltb s 2) refl e
+  where
+    none : (a b c : Bool) → (a ≡ true → n ≡ 0) → (b ≡ true → x ≡ 0) → (c ≡ true → p ≡ 0) → s < 2 → (a && b && c) ≡ true → Sound s n x p
+    none a b c f g h l q = let i = and-left (a && b) c q in unrefused l (f (and-left a b i)) (g (and-right a b i)) (h (and-right (a && b) c q))
+
+    one : (a b c d t f : Bool) → (a ≡ true → s ≡ 2) → (b ≡ true → 1 ≤ n) → (c ≡ true → n ≤ 16) → (d ≡ true → x ≤ 65535) → (t ≡ true → (eqb x 0 || hasBeside n) ≡ true) → (f ≡ true → p ≤ 4294967295)
+        → (a && b && c && d && t && f) ≡ true → Sound s n x p
+    one a b c d t f fa fb fc fd ft ff q =
+        let i4 = and-left (a && b && c && d && t) f q in
+        let i3 = and-left (a && b && c && d) t i4 in
+        let i2 = and-left (a && b && c) d i3 in
+        let i1 = and-left (a && b) c i2 in
+        refusing (fa (and-left a b i1)) (fb (and-right a b i1)) (fc (and-right (a && b) c i2)) (fd (and-right (a && b && c) d i3)) (ft (and-right (a && b && c && d) t i4)) (ff (and-right (a && b && c && d && t) f q))
+
+    go : (t : Bool) → ltb s 2 ≡ t
+        → cond t (eqb n 0 && eqb x 0 && eqb p 0) (eqb s 2 && leb 1 n && leb n 16 && leb x 65535 && (eqb x 0 || hasBeside n) && leb p 4294967295) ≡ true → Sound s n x p
+    go true t q = none (eqb n 0) (eqb x 0) (eqb p 0) (eqb-true n 0) (eqb-true x 0) (eqb-true p 0) (ltb-true s 2 t) q
+    go false t q =
+        one (eqb s 2) (leb 1 n) (leb n 16) (leb x 65535) (eqb x 0 || hasBeside n) (leb p 4294967295)
+        (eqb-true s 2) (leb-true 1 n) (leb-true n 16) (leb-true x 65535) (λ z. z) (leb-true p 4294967295) q
+
+-- where there is neither no answer nor an accepted one, there is a refusal
+pub standing-refusal : (s n x p : ℕ) → (s ≡ 0 → ⊥) → (s ≡ 1 → ⊥) → Sound s n x p → refused (toldRefusal (record { error = errorIn n x; place = p })) ≡ standingIn s n x p
+standing-refusal s n x p a b (unrefused l u v w) = absurd (upto 0 s (λ g. a (omega arith)) (λ g. b (omega arith)))
+standing-refusal s n x p a b (refusing e low high w v o) = rw e (ap refused (error-told n x p low high))
+
+beside-back : (n x : ℕ) → (eqb x 0 || hasBeside n) ≡ true → besideNumber (besideIn n x) ≡ x
+beside-back n x e = go (hasBeside n) (eqb x 0) refl e
+  where
+    go : (b t : Bool) → eqb x 0 ≡ t → (t || b) ≡ true → besideNumber (cond b (code x) nothing) ≡ x
+    go true t h q = refl
+    go false true h q = sym (eqb-true x 0 h)
+    go false false h q = never q
+
+standing-back : (s n x p : ℕ) → Sound s n x p → standingCells (standingIn s n x p) ≡ s ∷ n ∷ x ∷ p ∷ []
+standing-back s n x p (unrefused l a b c) = upto 0 s (λ g. let e : s ≡ 0 = omega arith in rw (e, a, b, c)) (λ g. let e : s ≡ 1 = omega arith in rw (e, a, b, c))
+standing-back s n x p (refusing e low high w b o) = rw e (ap (λ y. 2 ∷ n ∷ y ∷ p ∷ []) (beside-back n x b))
+
+-- the refusal that they hold
+pub standing-held : (s n x p : ℕ) (r : Refused) → standingIn s n x p ≡ refused r → record { number = n; beside = besideIn n x; place = p } ≡ r
+standing-held s n x p r e = go (eqb s 0) (eqb s 1) e
+  where
+    go : (a b : Bool) → cond a pending (cond b accepted (refused (record { number = n; beside = besideIn n x; place = p }))) ≡ refused r → record { number = n; beside = besideIn n x; place = p } ≡ r
+    go true b q = let z : _≡_ {A = ℕ} 0 1 = cc in absurd (omega arith)
+    go false true q = let z : _≡_ {A = ℕ} 0 1 = cc in absurd (omega arith)
+    go false false q = cc
+
+-- .. has a number from 1 to 16
+pub record Refusing (s n : ℕ) : Type 0 where
+  pub is : s ≡ 2
+  pub one : 1 ≤ n
+  pub most : n ≤ 16
+
+pub standing-numbered : (s n x p : ℕ) (r : Refused) → Sound s n x p → standingIn s n x p ≡ refused r → Refusing s n
+standing-numbered s n x p r (unrefused l u v w) e =
+    upto 0 s
+    (λ g. let t : s ≡ 0 = omega arith in none pending (subst (λ k. standingIn k n x p ≡ refused r) t e) (λ q. let z : _≡_ {A = ℕ} 0 1 = cc in absurd (omega arith)))
+    (λ g. let t : s ≡ 1 = omega arith in none accepted (subst (λ k. standingIn k n x p ≡ refused r) t e) (λ q. let z : _≡_ {A = ℕ} 0 1 = cc in absurd (omega arith)))
+  where
+    none : (a : Standing) → a ≡ refused r → (a ≡ refused r → Refusing s n) → Refusing s n
+    none a q f = f q
+standing-numbered s n x p r (refusing t low high w v o) e = record { is = t; one = low; most = high }
+
+-- ---- the eight cells
+
+pub record SoundLine (c : List ℕ) : Type 0 where
+  pub limit : cell c 0 ≤ 65535
+  pub met : cell c 3 ≤ 65535
+  pub standing : isStanding (cell c 4) (cell c 5) (cell c 6) (cell c 7) ≡ true
+  pub number : cell c 5 ≤ 16
+  pub beside : cell c 6 ≤ 65535
+  pub place : cell c 7 ≤ 4294967295
+
+pub line-sound : (c : List ℕ) → isConnection c ≡ true → SoundLine c
+unfolding isConnection
+line-sound c e = of (leb (cell c 0) 65535) (leb (cell c 3) 65535) (isStanding (cell c 4) (cell c 5) (cell c 6) (cell c 7)) (leb-true (cell c 0) 65535) (leb-true (cell c 3) 65535) (λ z. z) e
+  where
+    with-standing : cell c 0 ≤ 65535 → cell c 3 ≤ 65535 → isStanding (cell c 4) (cell c 5) (cell c 6) (cell c 7) ≡ true → Sound (cell c 4) (cell c 5) (cell c 6) (cell c 7) → SoundLine c
+    with-standing l m t (unrefused g a b o) = record { limit = l; met = m; standing = t; number = omega arith; beside = omega arith; place = omega arith }
+    with-standing l m t (refusing g low high w b o) = record { limit = l; met = m; standing = t; number = high; beside = w; place = o }
+
+    of : (a b t : Bool) → (a ≡ true → cell c 0 ≤ 65535) → (b ≡ true → cell c 3 ≤ 65535) → (t ≡ true → isStanding (cell c 4) (cell c 5) (cell c 6) (cell c 7) ≡ true) → (a && b && t) ≡ true → SoundLine c
+    of a b t f g h q =
+        let i = and-left (a && b) t q in
+        let z = h (and-right (a && b) t q) in
+        with-standing (f (and-left a b i)) (g (and-right a b i)) z (standing-sound (cell c 4) (cell c 5) (cell c 6) (cell c 7) z)
+
+eight : (c : List ℕ) → length c ≡ 8 → cell c 0 ∷ cell c 1 ∷ cell c 2 ∷ cell c 3 ∷ cell c 4 ∷ cell c 5 ∷ cell c 6 ∷ cell c 7 ∷ [] ≡ c
+eight [] e = absurd (omega arith)
+eight (c0 ∷ []) e = absurd (omega arith)
+eight (c0 ∷ c1 ∷ []) e = absurd (omega arith)
+eight (c0 ∷ c1 ∷ c2 ∷ []) e = absurd (omega arith)
+eight (c0 ∷ c1 ∷ c2 ∷ c3 ∷ []) e = absurd (omega arith)
+eight (c0 ∷ c1 ∷ c2 ∷ c3 ∷ c4 ∷ []) e = absurd (omega arith)
+eight (c0 ∷ c1 ∷ c2 ∷ c3 ∷ c4 ∷ c5 ∷ []) e = absurd (omega arith)
+eight (c0 ∷ c1 ∷ c2 ∷ c3 ∷ c4 ∷ c5 ∷ c6 ∷ []) e = absurd (omega arith)
+eight (c0 ∷ c1 ∷ c2 ∷ c3 ∷ c4 ∷ c5 ∷ c6 ∷ c7 ∷ []) e = refl
+eight (c0 ∷ c1 ∷ c2 ∷ c3 ∷ c4 ∷ c5 ∷ c6 ∷ c7 ∷ c8 ∷ c) e = absurd (omega arith)
+
+-- a connection that was not changed is put again as the cells that held it
+pub line-back : (c : List ℕ) → length c ≡ 8 → isConnection c ≡ true → lineCells (lineIn c) ≡ c
+line-back c l e =
+    ap (λ t. cell c 0 ∷ cell c 1 ∷ cell c 2 ∷ cell c 3 ∷ t) (standing-back (cell c 4) (cell c 5) (cell c 6) (cell c 7) (standing-sound (cell c 4) (cell c 5) (cell c 6) (cell c 7) (line-sound c e .standing)))
+    ∙ eight c l
+
+-- ---- whether they hold one
+
+pub kept-line : (c : List ℕ) (x : Line) → line x ≡ keptIn c → (isConnection c ≡ true) × (x ≡ lineIn c)
+unfolding keptIn
+kept-line c x e = go (isConnection c) refl e
+  where
+    go : (t : Bool) → isConnection c ≡ t → line x ≡ cond t (line (lineIn c)) noLine → (isConnection c ≡ true) × (x ≡ lineIn c)
+    go true h q = (h, cc)
+    go false h q = let z : _≡_ {A = ℕ} 0 1 = cc in absurd (omega arith)
+
+pub kept-none : (c : List ℕ) → noLine ≡ keptIn c → isConnection c ≡ false
+unfolding keptIn
+kept-none c e = go (isConnection c) refl e
+  where
+    go : (t : Bool) → isConnection c ≡ t → noLine ≡ cond t (line (lineIn c)) noLine → isConnection c ≡ false
+    go true h q = let z : _≡_ {A = ℕ} 0 1 = cc in absurd (omega arith)
+    go false h q = h

@@ -1,0 +1,5 @@
+pub mod Holding
+pub mod Refusing
+pub mod Feeding
+pub mod Answering
+pub mod Same

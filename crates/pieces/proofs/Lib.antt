@@ -1,0 +1,12 @@
+pub mod InPlace
+pub mod Inside
+pub mod Feeding
+pub mod Sorts
+pub mod Apart
+pub mod Same
+pub mod Going
+pub mod Storing
+pub mod Joining
+pub mod Taking
+pub mod Scanning
+pub mod Stopping

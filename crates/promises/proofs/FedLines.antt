@@ -1,0 +1,257 @@
+-- A connection that a host's call leaves is read back from its cells as it is: its limit and the kinds met have sixteen bits, and a refusal that it keeps has a number from
+-- 1 to 16, beside it what fits that number, of sixteen bits, and a place of thirty-two. So does every refusal that the call's word tells.
+-- Assumes nothing.
+use mathlib.Core.Path.{_≡_, refl, sym, ap, subst, _∙_}
+use mathlib.Core.List.{List, [], _∷_, _++_}
+use mathlib.Core.Bool.{Bool, true, false, cond, _||_, or-true}
+use Prim.Native.Nat.{ℕ, zero, suc, _^_, _≤_, _<_}
+use native.Mathlib.Omega.{arith}
+use lib.ListN.{length, take, drop}
+use lib.Bits.{or-lt}
+use lib.Pow.{pow-lt}
+use lib.Dec.{ltb, eqb}
+use borrow.Author.Tests.{le-leb}
+use Rattle.utf8.proofs.Tests as test
+use Rattle.nts.specs.Refusal.{Beside, nothing, code, Refused}
+use Rattle.record.specs.Record.{kind}
+use Rattle.walk.specs.Walk.{Reader, Step, stops, goes, step}
+use Rattle.walk.specs.Judge as judge
+use Rattle.walk.specs.Judge.{readBy}
+use Rattle.walk.specs.Shown.{slotOf}
+use Rattle.walk.specs.Table.{known}
+use Rattle.walk.specs.Met.{Passing, halts, on, metBelow, withMet, passing}
+use Rattle.walk.proofs.Known.{known-below}
+use Rattle.walk.proofs.Numbered.{Small, Sixteen, Fits, Numbered, small-part}
+use Rattle.walk.proofs.Within.{refused-within}
+use Rattle.cells.specs.Cells.{besideNumber, word, cell}
+use Rattle.cells.proofs.Lent.{apart}
+use Rattle.pieces.specs.Pieces.{Line, started, broken, Standing, pending, accepted, refused, Brought, joined, fitting, Going, waits, decides, going, otherwise, cameTo, beginsAt, comes}
+use Rattle.pieces.specs.Pieces.{Read, Fed, none, answers, refusedAt, firstAnswer, answerOf, isPending, standingBy, lineAfter}
+use Rattle.pieces.proofs.Going.{by-records}
+use Rattle.feeding.specs.Fed.{standingCells, lineCells, hasBeside, isStanding, isConnection, besideIn, standingIn, lineIn}
+use Rattle.feeding.proofs.Holding.{line-sound, standing-sound, standing-held, standing-numbered}
+use Rattle.feeding.proofs.Refusing.{refusal-same, refused-of}
+use Rattle.feeding.proofs.Answering.{Sixteenth, pending-answer}
+use Rattle.promises.specs.FedCells.{unheld, connectionIn, refusalIn}
+
+-- ---- bytes
+
+small-take : (n : ℕ) (s : List ℕ) → Small s → Small (take n s)
+small-take n s h = small-part s n 0 h
+
+small-append : (s t : List ℕ) → Small s → Small t → Small (s ++ t)
+small-append [] t h g i = g i
+small-append (x ∷ s) t h g zero = h zero
+small-append (x ∷ s) t h g (suc i) = small-append s t (λ j. h (suc j)) g i
+
+-- ---- a refusal that cells and words tell
+
+pub record Plain (y : Refused) : Type 0 where
+  pub low : 1 ≤ y .number
+  pub high : y .number ≤ 16
+  pub fits : Fits (y .number) (y .beside)
+  pub sixteen : Sixteen (y .beside)
+  pub near : y .place ≤ 4294967295
+
+beside-small : (b : Beside) → Sixteen b → besideNumber b < 65536
+beside-small nothing h = omega arith
+beside-small (code c) h = h
+
+-- what is beside it is read back
+beside-told : (n : ℕ) (b : Beside) → Fits n b → besideIn n (besideNumber b) ≡ b
+unfolding hasBeside
+beside-told n nothing f = ap (λ (t : Bool). cond t (code 0) nothing) f
+beside-told n (code c) f = ap (λ (t : Bool). cond t (code c) nothing) f
+
+beside-some : (n : ℕ) (b : Beside) → Fits n b → (eqb (besideNumber b) 0 || hasBeside n) ≡ true
+unfolding hasBeside
+beside-some n nothing f = refl
+beside-some n (code c) f = ap (λ (t : Bool). eqb c 0 || t) f ∙ or-true (eqb c 0)
+
+beside-fits : (n x : ℕ) → Fits n (besideIn n x)
+unfolding hasBeside
+beside-fits n x = go (hasBeside n) refl
+  where
+    go : (t : Bool) → hasBeside n ≡ t → Fits n (cond t (code x) nothing)
+    go true e = e
+    go false e = e
+
+beside-sixteen : (n x : ℕ) → x ≤ 65535 → Sixteen (besideIn n x)
+beside-sixteen n x l = go (hasBeside n)
+  where
+    go : (t : Bool) → Sixteen (cond t (code x) nothing)
+    go true = omega arith
+    go false = tt
+
+-- from its word
+pub refusal-back : (y : Refused) → Plain y → refusalIn (word y) ≡ y
+refusal-back y p =
+    let e = apart y (omega (arith, p .high)) (beside-small (y .beside) (p .sixteen)) in
+    (λ j. record { number = e .0 j; beside = besideIn (e .0 j) (e .1 j); place = e .2 j })
+    ∙ ap (λ (b : Beside). record { number = y .number; beside = b; place = y .place }) (beside-told (y .number) (y .beside) (p .fits))
+
+-- ---- a connection that cells tell
+
+pub record PlainLine (c : Line) : Type 0 where
+  pub limit : c .limit ≤ 65535
+  pub met : c .met ≤ 65535
+  pub refusal : (y : Refused) → c .standing ≡ refused y → Plain y
+
+abbrev Stands : Standing → ℕ → ℕ → ℕ → ℕ → Type 0
+Stands a s n x p = (isStanding s n x p ≡ true) × (standingIn s n x p ≡ a)
+
+standing-put : (a : Standing) → ((y : Refused) → a ≡ refused y → Plain y) → Stands a (cell (standingCells a) 0) (cell (standingCells a) 1) (cell (standingCells a) 2) (cell (standingCells a) 3)
+unfolding isStanding
+standing-put pending h = (refl, refl)
+standing-put accepted h = (refl, refl)
+standing-put (refused y) h =
+    let p = h y refl in
+    let l : besideNumber (y .beside) ≤ 65535 = omega (arith, beside-small (y .beside) (p .sixteen)) in (
+      rw (le-leb 1 (y .number) (p .low), le-leb (y .number) 16 (p .high), le-leb (besideNumber (y .beside)) 65535 l, beside-some (y .number) (y .beside) (p .fits), le-leb (y .place) 4294967295 (p .near)),
+      ap (λ (b : Beside). refused (record { number = y .number; beside = b; place = y .place })) (beside-told (y .number) (y .beside) (p .fits)),
+    )
+
+-- its cells hold it
+pub line-holds : (c : Line) → PlainLine c → isConnection (lineCells c) ≡ true
+unfolding isConnection
+line-holds c p = rw (le-leb (c .limit) 65535 (p .limit), le-leb (c .met) 65535 (p .met), standing-put (c .standing) (p .refusal) .0)
+
+pub line-forth : (c : Line) → PlainLine c → connectionIn (lineCells c) ≡ c
+line-forth c p =
+    ap (λ (t : Bool). cond t (lineIn (lineCells c)) unheld) (line-holds c p)
+    ∙ ap (λ (a : Standing). record { limit = c .limit; gathered = c .gathered; begins = c .begins; met = c .met; standing = a }) (standing-put (c .standing) (p .refusal) .1)
+
+pub started-plain : (n : ℕ) → n ≤ 65535 → PlainLine (started n)
+started-plain n l = record { limit = l; met = omega arith; refusal = λ y e. let z : _≡_ {A = ℕ} 0 1 = cc in absurd (omega arith) }
+
+-- ---- the kinds met
+
+slot-few : (k : ℕ) → slotOf k < 16
+unfolding slotOf
+slot-few k = test.on (known k) (λ e. rw e (omega (arith, known-below k e))) (λ e. rw e (omega arith))
+
+met-few : (m k : ℕ) → m ≤ 65535 → withMet m (slotOf k) ≤ 65535
+unfolding withMet
+met-few m k l =
+    let z : m < 2 ^ 16 = omega arith in
+    omega (arith, or-lt 16 m (2 ^ slotOf k) z (pow-lt (slot-few k)))
+
+passing-few : (R : Reader) (met m : ℕ) (s : List ℕ) → passing R met s ≡ on m → met ≤ 65535 → m ≤ 65535
+unfolding passing
+passing-few R met m s e l = go (step R (metBelow met 15) 0 s) e
+  where
+    go : (x : Step) → _≡_ {A = Passing} (elim x as (λ (y : Step). Passing) [ stops o ↦ halts | goes st ↦ on (withMet met (slotOf (kind s))) ]) (on m) → m ≤ 65535
+    go (stops o) q = let z : _≡_ {A = ℕ} 0 1 = cc in absurd (omega arith)
+    go (goes st) q = let z : withMet met (slotOf (kind s)) ≡ m = cc in omega (arith, z, met-few met (kind s) l)
+
+abbrev metOf : Going → ℕ
+metOf (waits a m) = m
+metOf (decides a m through) = m
+
+going-few : (R : Reader) (met at : ℕ) (s : List ℕ) → met ≤ 65535 → metOf (going R met at 0 s) ≤ 65535
+going-few R =
+    by-records R (λ met at s g. met ≤ 65535 → metOf g ≤ 65535) (λ met at s w l. l) (λ met at s w p l. l)
+    (λ met at m s g w p i l. i (passing-few R met m s p l))
+
+came-few : (R : Reader) (c : Line) (b : List ℕ) (h : Brought) → c .met ≤ 65535 → comes R c b h .met ≤ 65535
+unfolding comes
+came-few R c b h l =
+    go (going R (c .met) (beginsAt c) 0 (drop (beginsAt c) (fitting c b h))) (going-few R (c .met) (beginsAt c) (drop (beginsAt c) (fitting c b h)) l)
+  where
+    go : (g : Going) → metOf g ≤ 65535 → cameTo (otherwise c b h) (length (fitting c b h)) g .met ≤ 65535
+    go (waits a m) i = i
+    go (decides a m through) i = i
+
+-- ---- a refusal that cells hold
+
+held-plain : (c : List ℕ) → isConnection c ≡ true → (y : Refused) → lineIn c .standing ≡ refused y → Plain y
+held-plain c i y e =
+    let k = line-sound c i in
+    let r = standing-numbered (cell c 4) (cell c 5) (cell c 6) (cell c 7) y (standing-sound (cell c 4) (cell c 5) (cell c 6) (cell c 7) (k .standing)) e in
+    subst Plain (standing-held (cell c 4) (cell c 5) (cell c 6) (cell c 7) y e)
+    (record {
+      low = r .one;
+      high = r .most;
+      fits = beside-fits (cell c 5) (cell c 6);
+      sixteen = beside-sixteen (cell c 5) (cell c 6) (k .beside);
+      near = k .place;
+    })
+
+held-line : (c : List ℕ) → isConnection c ≡ true → PlainLine (lineIn c)
+held-line c i = let k = line-sound c i in record { limit = k .limit; met = k .met; refusal = held-plain c i }
+
+-- ---- cells that hold no connection
+
+module _ (X : Read) (b : List ℕ) (h : Brought) (room : ℕ) where
+  unheld-broken : broken unheld b ≡ true
+  unfolding broken
+  unheld-broken = or-true (ltb (length b) 1)
+
+  pub unheld-answer : answerOf X unheld b h room ≡ refusedAt 9 0
+  unfolding answerOf
+  unheld-answer = rw unheld-broken
+
+  pub unheld-quiet : isPending unheld b ≡ false
+  unfolding isPending
+  unheld-quiet = rw unheld-broken
+
+-- ---- what a call answers and leaves
+
+-- what is known of the whole-message reader's refusals
+abbrev pub Numbering : Read → Type 0
+Numbering X = (s : List ℕ) (n room : ℕ) (y : Refused) → readBy (X .reader) (X .judging) s (record { limit = n; room = room }) ≡ judge.refused y → Numbered Sixteenth s (y .number) (y .beside)
+
+nine : Plain (record { number = 9; beside = nothing; place = 0 })
+nine = record { low = omega arith; high = omega arith; fits = refl; sixteen = tt; near = omega arith }
+
+module _ (X : Read) (numbering : Numbering X) (c b : List ℕ) (h : Brought) (room : ℕ) (sb : Small b) (sp : Small (h .piece)) where
+  module _ (i : isConnection c ≡ true) where
+    joined-small : Small (joined (lineIn c) b h)
+    unfolding joined
+    joined-small = small-append (take (cell c 1) b) (h .piece) (small-take (cell c 1) b sb) sp
+
+    answer-held : (y : Refused) → answerOf X (lineIn c) b h room ≡ answers (judge.refused y) → Plain y
+    answer-held y =
+        let k = line-sound c i in
+        refused-of X (lineIn c) b h room y Small (λ n. small-take n (joined (lineIn c) b h) joined-small) (small-take (cell c 1) b sb)
+        (λ q. subst Plain q nine)
+        (λ n l q. subst Plain q (record { low = omega arith; high = omega arith; fits = refl; sixteen = tt; near = omega (arith, l, k .limit) }))
+        (λ q. held-plain c i y q)
+        (λ s cells g q.
+        let m = numbering s (cell c 0) cells y q in
+        record {
+          low = m .one .0;
+          high = m .one .1;
+          fits = m .fits;
+          sixteen = m .beside g;
+          near = omega (arith, refused-within (X .reader) (X .judging) s (record { limit = cell c 0; room = cells }) y q, k .limit);
+        })
+
+    pub after-plain : PlainLine (lineAfter X (lineIn c) b h room)
+    unfolding lineAfter
+    after-plain = test.on (isPending (lineIn c) b) (λ p. rw p (goes-on p)) (λ p. rw p (held-line c i))
+      where
+        kept : (a : Fed (X .judging .Q)) (y : Refused) → standingBy a ≡ refused y → a ≡ answers (judge.refused y)
+        kept none y e = let z : _≡_ {A = ℕ} 0 1 = cc in absurd (omega arith)
+        kept (answers (judge.refused r)) y e = let z : r ≡ y = cc in ap (λ (x : Refused). answers (judge.refused x)) z
+        kept (answers (judge.accepted q)) y e = let z : _≡_ {A = ℕ} 0 1 = cc in absurd (omega arith)
+
+        goes-on : isPending (lineIn c) b ≡ true
+            → PlainLine (record {
+              limit = cell c 0;
+              gathered = comes (X .reader) (lineIn c) b h .gathered;
+              begins = comes (X .reader) (lineIn c) b h .begins;
+              met = comes (X .reader) (lineIn c) b h .met;
+              standing = standingBy (firstAnswer X (lineIn c) b h room);
+            })
+        goes-on p = record {
+          limit = line-sound c i .limit;
+          met = came-few (X .reader) (lineIn c) b h (line-sound c i .met);
+          refusal = λ y e. answer-held y (pending-answer X (lineIn c) b h room p ∙ kept (firstAnswer X (lineIn c) b h room) y e);
+        }
+
+  -- every refusal that it answers
+  pub answer-plain : (y : Refused) → answerOf X (connectionIn c) b h room ≡ answers (judge.refused y) → Plain y
+  answer-plain y e =
+      test.on (isConnection c) (λ i. answer-held i y (ap (λ (t : Bool). answerOf X (cond t (lineIn c) unheld) b h room) (sym i) ∙ e))
+      (λ i. subst Plain (refusal-same _ y (sym (unheld-answer X b h room) ∙ ap (λ (t : Bool). answerOf X (cond t (lineIn c) unheld) b h room) (sym i) ∙ e)) nine)

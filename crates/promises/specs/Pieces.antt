@@ -1,0 +1,163 @@
+-- A read fed in pieces, over the calls that were made: 02, order 1. What is said here is said of the bytes handed over, joined, and of the whole-message reader;
+-- nothing of a connection record but what it tells its host. proofs/Pieces.antt proves it of the calls of Fed.antt by their own contracts, for requests and for replies, and
+-- PiecesFace.antt of the calls that a host links (FedCells.antt).
+use Prim.Native.Nat.{ℕ, _+_, _≤_}
+use mathlib.Core.Path.{_≡_}
+use mathlib.Core.List.{List, [], _∷_, _++_}
+use mathlib.Core.Bool.{Bool, true, false, cond, not, _&&_, _||_}
+use lib.ListN.{length, take, drop}
+use lib.Dec.{ltb, leb}
+use Rattle.wire.specs.Over.{over}
+use Rattle.nts.specs.Refusal.{Refused}
+use Rattle.record.specs.Record.{size}
+use Rattle.walk.specs.Walk.{Reader, walk}
+use Rattle.walk.specs.Judge.{readBy}
+use Rattle.walk.specs.Found.{placeOf}
+use Rattle.pieces.specs.Pieces.{Line, started, Standing, pending, Brought, Read, Fed, none, answers, refusedAt, byStanding, Says, saysOf, standingBy, filledBy, whole}
+use Rattle.promises.specs.Demand3 as demand
+
+-- ---- what joined bytes come to
+
+-- "A record is judged when it stands whole": the one at which the whole-message walk over s stops is
+unfoldable pub decided : Reader → List ℕ → Bool
+decided R s = whole (drop (placeOf (walk R [] 0 0 s)) s)
+
+-- how many bytes of s that is through: all of them, where none decides
+unfoldable pub through : Reader → List ℕ → ℕ
+through R s = cond (decided R s) (placeOf (walk R [] 0 0 s) + (4 + size (drop (placeOf (walk R [] 0 0 s)) s))) (length s)
+
+-- 16: "exactly when a byte arrives that the read needs, inside the limit, and the buffer has no room": byte number `room` of j, below the limit n, where
+-- those before it decide nothing
+unfoldable pub lacksRoom : Reader → ℕ → ℕ → List ℕ → Bool
+lacksRoom R n room j = ltb room (length j) && ltb room n && not (decided R (take room j))
+
+-- no answer yet: neither the close nor the limit has come, and nothing is decided
+unfoldable pub undecided : Reader → ℕ → Brought → Bool
+undecided R n h = not (h .closed) && ltb (length (h .piece)) n && not (decided R (h .piece))
+
+-- the answer: 16 at the byte that has no room; none yet; or the whole-message reader's "on the pieces joined"
+unfoldable pub answerOn : (X : Read) → ℕ → ℕ → Brought → ℕ → Fed (X .judging .Q)
+answerOn X n buffer h room =
+    cond (lacksRoom (X .reader) n buffer (h .piece))
+    (refusedAt 16 buffer)
+    (cond (undecided (X .reader) n h) none (answers (readBy (X .reader) (X .judging) (h .piece) (record { limit = n; room = room }))))
+
+-- how many of the joined bytes the buffer begins with: "through the deciding record, or until it is full"; no more than the limit, and as many as have come
+unfoldable pub heldOn : Reader → ℕ → ℕ → List ℕ → ℕ
+heldOn R n buffer j = through R (take buffer (take n j))
+
+-- ---- calls on one line
+
+-- a call that was made: what it was given and what it left
+pub record Made (X : Read) : Type 0 where
+  pub before : Line
+  pub lent : List ℕ
+  pub brought : Brought
+  pub room : ℕ
+  pub table : List ℕ
+  pub said : Says (X .Told)
+  pub after : Line
+  pub left : List ℕ
+  pub filled : List ℕ
+
+-- a function that feeds a read of one sort, over its calls: what each was given and left; what it is that it accepted and that s is in hand, of the bytes gathered and the
+-- table; and what it is that it refused, and left the table as it was
+pub record Feeder (X : Read) (S : Type 0) : Type 2 where
+  pub Call : Type 1
+  pub made : Call → Made X
+  pub Accepts : Call → S → Type 0
+  pub Refuses : Call → Refused → Type 0
+
+abbrev pub madeBy : {X : Read} {S : Type 0} (F : Feeder X S) → List (F .Call) → List (Made X)
+madeBy F [] = []
+madeBy F (x ∷ xs) = F .made x ∷ madeBy F xs
+
+-- the latest first: after a start under the limit n, with the buffer b
+abbrev pub lineIn : {X : Read} → ℕ → List (Made X) → Line
+lineIn n [] = started n
+lineIn n (x ∷ xs) = x .after
+
+abbrev pub bufferIn : {X : Read} → List ℕ → List (Made X) → List ℕ
+bufferIn b [] = b
+bufferIn b (x ∷ xs) = x .left
+
+-- "The handler returns record and buffer as it got them"; the table may be another each time
+abbrev pub OnLine : {X : Read} → ℕ → List ℕ → List (Made X) → Type 0
+OnLine n b [] = Unit {0}
+OnLine n b (x ∷ xs) = (x .before ≡ lineIn n xs) × (x .lent ≡ bufferIn b xs) × OnLine n b xs
+
+-- "the pieces joined", and whether the line closed behind them
+abbrev pub joinedIn : {X : Read} → List (Made X) → Brought
+joinedIn [] = record { piece = []; closed = false }
+joinedIn (x ∷ xs) = record { piece = joinedIn xs .piece ++ x .brought .piece; closed = joinedIn xs .closed || x .brought .closed }
+
+-- ---- however cut
+
+-- what a call on a line without an answer leaves, told of the joined bytes h alone
+pub record Told (X : Read) (n : ℕ) (b : List ℕ) (h : Brought) (x : Made X) : Type 0 where
+  -- "Unless 16 is given, the answer equals the whole-message reader's on the pieces joined .. however cut"
+  pub answer : x .said ≡ saysOf X (h .piece) (answerOn X n (length b) h (x .room))
+  pub standing : x .after .standing ≡ standingBy (answerOn X n (length b) h (x .room))
+  -- "the buffer begins with the joined bytes through the deciding record, or until it is full, and is otherwise untouched"
+  pub gathered : x .after .gathered ≡ heldOn (X .reader) n (length b) (h .piece)
+  pub buffer : x .left ≡ over (take (heldOn (X .reader) n (length b) (h .piece)) (h .piece)) b
+  -- "The table changes only when a message is accepted"
+  pub table : x .filled ≡ filledBy X (answerOn X n (length b) h (x .room)) (x .table)
+
+-- x is the last call and xs those before it: the room of the table that was lent to the call which gave the answer, or without one to the last
+abbrev pub roomIn : {X : Read} → Made X → List (Made X) → ℕ
+roomIn x [] = x .room
+roomIn x (y ∷ ys) = byStanding (y .after .standing) (x .room) (roomIn y ys) (λ r. roomIn y ys)
+
+-- what any call leaves, told of the joined bytes h of all calls
+pub record Stands (X : Read) (n : ℕ) (b : List ℕ) (h : Brought) (room : ℕ) (x : Made X) : Type 0 where
+  pub answer : x .said ≡ saysOf X (h .piece) (answerOn X n (length b) h room)
+  pub standing : x .after .standing ≡ standingBy (answerOn X n (length b) h room)
+  pub gathered : x .after .gathered ≡ heldOn (X .reader) n (length b) (h .piece)
+  pub buffer : x .left ≡ over (take (heldOn (X .reader) n (length b) (h .piece)) (h .piece)) b
+
+-- a call that changed nothing, and gave the answer of the one before
+pub record Repeated (X : Read) (x y : Made X) : Type 0 where
+  pub answer : y .said ≡ x .said
+  pub line : y .after ≡ x .after
+  pub buffer : y .left ≡ x .left
+  pub table : y .filled ≡ y .table
+
+-- for every list of calls, the latest first
+pub record HoweverCut {X : Read} {S : Type 0} (F : Feeder X S) : Type 1 where
+  -- a call on a line without an answer: told of the bytes of all calls, joined
+  pub first : (n : ℕ) (b : List ℕ) (xs : List (F .Call)) (x : F .Call) → OnLine n b (madeBy F (x ∷ xs)) → lineIn n (madeBy F xs) .standing ≡ pending
+      → Told X n b (joinedIn (madeBy F (x ∷ xs))) (F .made x)
+  -- after any calls, of which none but the last closed the line: the same, of the bytes of all of them, joined
+  pub ever : (n : ℕ) (b : List ℕ) (xs : List (F .Call)) (x : F .Call) → OnLine n b (madeBy F (x ∷ xs)) → joinedIn (madeBy F xs) .closed ≡ false
+      → Stands X n b (joinedIn (madeBy F (x ∷ xs))) (roomIn (F .made x) (madeBy F xs)) (F .made x)
+  -- "Once an answer exists, later calls change nothing and give it again"
+  pub later : (n : ℕ) (b : List ℕ) (xs : List (F .Call)) (x y : F .Call) → OnLine n b (madeBy F (y ∷ x ∷ xs)) → (F .made x .after .standing ≡ pending → ⊥)
+      → Repeated X (F .made x) (F .made y)
+  -- no byte handed over after an answer would have changed it, nor the bytes that are held: before the close, the answer is the whole-message reader's on the joined
+  -- bytes and any bytes after them
+  pub settled : (n : ℕ) (b j t : List ℕ) (closed : Bool) (room : ℕ) → (answerOn X n (length b) (record { piece = j; closed = false }) room ≡ none → ⊥)
+      → (answerOn X n (length b) (record { piece = j ++ t; closed = closed }) room ≡ answerOn X n (length b) (record { piece = j; closed = false }) room)
+      × (heldOn (X .reader) n (length b) (j ++ t) ≡ heldOn (X .reader) n (length b) j)
+
+-- ---- "Demand 3 holds for the joined bytes, if the buffer has room through the end record"
+
+-- calls on one line, of which the last found no answer there
+pub record Run {X : Read} {S : Type 0} (F : Feeder X S) : Type 1 where
+  pub limit : ℕ
+  pub buffer : List ℕ
+  pub before : List (F .Call)
+  pub last : F .Call
+  pub online : OnLine limit buffer (madeBy F (last ∷ before))
+  pub waited : lineIn limit (madeBy F before) .standing ≡ pending
+
+-- as a reader: its message is the bytes joined, under the limit and with the table that is lent to the last call; what that answers is its answer
+abbrev pub joinedReader : {X : Read} {S : Type 0} → Feeder X S → demand.Reader S
+joinedReader F = record {
+  Call = Run F;
+  asked = λ c. joinedIn (madeBy F (c .last ∷ c .before)) .piece;
+  under = λ c. record { limit = c .limit; room = F .made (c .last) .room };
+  Holds = λ c n. n ≤ length (c .buffer);
+  Accepts = λ c s. F .Accepts (c .last) s;
+  Refuses = λ c y. F .Refuses (c .last) y;
+}
