@@ -20,11 +20,14 @@ static struct ntske_record_read record;
 static struct ntske_choice choice;
 static struct ntske_plan plan;
 static struct ntske_connection line;
+static struct ntske_finding finding;
 static size_t message_len, reply_len, used, count;
 
 static uint64_t nothing(void) { return NTSKE_OK; }
 static uint64_t read_request(void) { return ntske_read_request(message, message_len, NTSKE_LIMIT, table, 2 * NAMES, &request); }
 static uint64_t read_reply(void) { return ntske_read_reply(out, reply_len, NTSKE_LIMIT, table, 2 * NAMES, &reply); }
+static uint64_t walk_request(void) { return ntske_walk_request(message, message_len, NTSKE_LIMIT, &finding); }
+static uint64_t decide_request(void) { return ntske_decide_request(&finding, message, message_len, table, 2 * NAMES, &request); }
 static uint64_t feed_request(void) {
     return ntske_connection_new(NTSKE_LIMIT, &line) | ntske_feed_request(&line, message, message_len, buffer, sizeof buffer, table, 2 * NAMES, &request);
 }
@@ -73,8 +76,9 @@ static size_t deep(uint64_t (*call)(void)) {
 int main(void) {
     static const struct { const char *name; uint64_t (*call)(void); } calls[] = {
         { "choose", choose }, { "plan_append", append }, { "plan_length", plan_length }, { "write_reply", write_reply }, { "read_reply", read_reply },
-        { "feed_reply", feed_reply }, { "read_request", read_request }, { "feed_request", feed_request }, { "read_record", read_record }, { "is_utf8", is_utf8 }, { "list", list }, { "append_denied", append_denied },
-        { "write_request", write_request }, { "write_support_reply", write_support_reply }, { "write_record", write_record },
+        { "feed_reply", feed_reply }, { "read_request", read_request }, { "walk_request", walk_request }, { "decide_request", decide_request }, { "feed_request", feed_request },
+        { "read_record", read_record }, { "is_utf8", is_utf8 }, { "list", list }, { "append_denied", append_denied }, { "write_request", write_request },
+        { "write_support_reply", write_support_reply }, { "write_record", write_record },
     };
     static const uint8_t lists[] = { 0x80, 1, 0, 2, 0, 0, 0x80, 4, 0, 2, 0, 15 }, end[] = { 0x80, 0, 0, 0 };
     size_t i, base;

@@ -4,7 +4,8 @@
  *
  *     ./archive && cc -std=c11 -Iinclude examples/host.c target/lib/libntske.a -o host && ./host [BYTES]
  *
- * A message is read as it comes: a side hands over what it takes off its pipe, at most so many BYTES at once, until there is an answer.
+ * A message is read as it comes: a side hands over what it takes off its pipe, at most so many BYTES at once, until there is an answer. Of a request that it
+ * refuses the server logs which records it held.
  */
 #define _POSIX_C_SOURCE 200809L
 #include "ntske.h"
@@ -93,6 +94,40 @@ static size_t answer_request(const uint8_t *message, size_t len, const uint16_t 
     return written;
 }
 
+/* What a request that is refused held: a line for each kind of records, and one for why the walk over them stopped. */
+static void log_request(const uint8_t *message, size_t len)
+{
+    static const char *const kinds[NTSKE_FOUND_KINDS] = {
+        [NTSKE_FOUND_END_OF_MESSAGE] = "end",
+        [NTSKE_FOUND_NEXT_PROTOCOL] = "next protocol",
+        [NTSKE_FOUND_ERROR] = "error",
+        [NTSKE_FOUND_WARNING] = "warning",
+        [NTSKE_FOUND_AEAD_ALGORITHM] = "algorithm",
+        [NTSKE_FOUND_NEW_COOKIE] = "cookie",
+        [NTSKE_FOUND_SERVER] = "server",
+        [NTSKE_FOUND_PORT] = "port",
+        [NTSKE_FOUND_KEEP_ALIVE] = "keep-alive",
+        [NTSKE_FOUND_SUPPORTED_NEXT_PROTOCOL_LIST] = "supported protocols",
+        [NTSKE_FOUND_SUPPORTED_ALGORITHM_LIST] = "supported algorithms",
+        [NTSKE_FOUND_UNKNOWN] = "unknown",
+        [NTSKE_FOUND_FIXED_KEY_REQUEST] = "fixed key",
+        [NTSKE_FOUND_NTP_SERVER_DENY] = "denied server",
+        [NTSKE_FOUND_AUTHENTICATION] = "authentication",
+    };
+    struct ntske_finding finding;
+
+    must(ntske_walk_request(message, len, SIZE, &finding) == NTSKE_OK);
+    for (size_t i = 0; i < NTSKE_FOUND_KINDS; i++) {
+        unsigned count = finding.found[i].count;
+        if (count > 0)
+            printf("log: %u %s record%s\n", count, kinds[i], count > 1 ? "s" : "");
+    }
+    if (finding.reason == NTSKE_OK)
+        printf("log: ended at %u\n", finding.place);
+    else
+        printf("log: stopped at %u: %s (%u)\n", finding.place, ntske_words(finding.reason), finding.reason);
+}
+
 static void server(int from, int to)
 {
     uint8_t piece[SIZE], message[SIZE], out[SIZE];
@@ -113,6 +148,7 @@ static void server(int from, int to)
 
     if (answer != NTSKE_OK) {
         tell("server", answer);
+        log_request(message, line.gathered);
         must(ntske_write_error(ntske_error_code(answer), out, SIZE, &written) == NTSKE_OK);
     } else if (request.sort != NTSKE_KEY_EXCHANGE) {
         printf("server: no key exchange\n");

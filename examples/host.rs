@@ -3,12 +3,13 @@
 //!
 //!     ./archive && cargo run --manifest-path bindings/rust/Cargo.toml --example host [-- BYTES]
 //!
-//! A message is read as it comes: a side hands over what it takes off its socket, at most so many BYTES at once, until there is an answer.
+//! A message is read as it comes: a side hands over what it takes off its socket, at most so many BYTES at once, until there is an answer. Of a request
+//! that it refuses the server logs which records it held.
 
 use ntske::{
     choose, choose_protocol, write_error, write_no_algorithm, write_no_protocol, write_request,
-    AeadAlgorithm, Connection, Denied, ErrorCode, Fed, List, Name, Names, NextProtocol, Plan,
-    Record, Refused, Request, Tray,
+    AeadAlgorithm, Connection, Denied, ErrorCode, Fed, List, Message, Name, Names, NextProtocol,
+    Plan, Record, Refused, Request, Tray,
 };
 use std::io::{Read, Write};
 use std::net::Shutdown;
@@ -66,6 +67,13 @@ fn answer_request<'o>(
     Ok(reply)
 }
 
+/// What a request that is refused held: a line for each kind of records, and one for why the walk over them stopped.
+fn log_request(message: Message) {
+    for line in message.walk_request(LIMIT).to_string().lines() {
+        println!("log: {line}");
+    }
+}
+
 fn server(stream: &mut UnixStream, piece: &mut [u8]) -> Outcome<()> {
     let (mut buffer, mut out, mut table) = ([0; SIZE], [0; SIZE], [0; 2 * ENTRIES]);
     let mut line = Connection::start(LIMIT);
@@ -92,6 +100,7 @@ fn server(stream: &mut UnixStream, piece: &mut [u8]) -> Outcome<()> {
         }
         Err(refusal) => {
             println!("server: {refusal}");
+            log_request(Message::new(&buffer[..line.gathered()]));
             write_error(refusal.why.error_code(), &mut out)?
         }
     };

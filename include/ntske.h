@@ -3,8 +3,8 @@
  *
  * The host keeps TLS, keys, ciphers and sockets. The library reads and writes the messages, chooses
  * protocol and algorithm, allocates nothing and keeps nothing. Its functions are those of
- * crates/reading, feeding, handing, planning, writing and showing, which are proved to meet their
- * contracts; this header is not, and tests/abi holds it against the source.
+ * crates/reading, deciding, feeding, handing, planning, writing and showing, which are proved to
+ * meet their contracts; this header is not, and tests/abi holds it against the source.
  *
  * A server, once a whole request of `len` bytes is in `message`:
  *
@@ -39,19 +39,20 @@
  *         ntske_entry(message, len, table, TABLE_LEN, i, &cookie);
  *
  * A host that takes a message off a line need not know when it is whole: it hands over what comes,
- * as it comes (see "reading in pieces").
+ * as it comes (see "reading in pieces"). One that logs which records a request held, also where it
+ * is refused, reads it in two calls (see "reading and deciding").
  *
  * README.md has both as programs, and examples/host.c is a whole host.
  *
  * What a call returns. Every call ends with an answer for every value of its arguments. It returns
  * NTSKE_OK, or one word with the refusal's number in bits 0 to 15, the number beside it in bits 16
- * to 31 (5, 11 and 12 have one) and its place in bits 32 to 63 (those of ntske_read_request and
- * ntske_read_reply and of the calls that feed or close have one): ntske_refusal, ntske_beside and
- * ntske_place take it apart, ntske_words says it in words. A call that is refused changes nothing
- * that was lent to it: no struct, no count, no table, no tray, no output; of a read in pieces alone
- * the buffer and the connection may change. ntske_feed_request and ntske_feed_reply may also return
- * NTSKE_WAITING, which is neither NTSKE_OK nor a refusal. ntske_is_utf8 and ntske_version refuse
- * nothing and return their answer.
+ * to 31 (5, 11 and 12 have one) and its place in bits 32 to 63 (those of ntske_read_request,
+ * ntske_read_reply and ntske_decide_request and of the calls that feed or close have one):
+ * ntske_refusal, ntske_beside and ntske_place take it apart, ntske_words says it in words. A call
+ * that is refused changes nothing that was lent to it: no struct, no count, no table, no tray, no
+ * output; of a read in pieces alone the buffer and the connection may change. ntske_feed_request
+ * and ntske_feed_reply may also return NTSKE_WAITING, which is neither NTSKE_OK nor a refusal.
+ * ntske_is_utf8 and ntske_version refuse nothing and return their answer.
  *
  * What the host owes, since the compiler cannot see it: a pointer is not NULL and is aligned for
  * what it points to, also where the length behind it is 0 (NTSKE_NO_BYTES and NTSKE_NO_NUMBERS are
@@ -145,6 +146,29 @@ enum ntske_kinds {
     NTSKE_KIND_AUTHENTICATION = 14
 };
 
+/*
+ * Where a finding counts the records of a kind: see ntske_finding. A known kind has its own number,
+ * and all unknown ones are together under 11, which no known kind has.
+ */
+#define NTSKE_FOUND_KINDS 15
+enum ntske_found_indices {
+    NTSKE_FOUND_END_OF_MESSAGE = 0,
+    NTSKE_FOUND_NEXT_PROTOCOL = 1,
+    NTSKE_FOUND_ERROR = 2,
+    NTSKE_FOUND_WARNING = 3,
+    NTSKE_FOUND_AEAD_ALGORITHM = 4,
+    NTSKE_FOUND_NEW_COOKIE = 5,
+    NTSKE_FOUND_SERVER = 6,
+    NTSKE_FOUND_PORT = 7,
+    NTSKE_FOUND_KEEP_ALIVE = 8,
+    NTSKE_FOUND_SUPPORTED_NEXT_PROTOCOL_LIST = 9,
+    NTSKE_FOUND_SUPPORTED_ALGORITHM_LIST = 10,
+    NTSKE_FOUND_UNKNOWN = 11,
+    NTSKE_FOUND_FIXED_KEY_REQUEST = 12,
+    NTSKE_FOUND_NTP_SERVER_DENY = 13,
+    NTSKE_FOUND_AUTHENTICATION = 14
+};
+
 /* Sorts of requests. */
 enum ntske_sorts { NTSKE_KEY_EXCHANGE = 1, NTSKE_FIXED_KEY = 2, NTSKE_SUPPORT = 3 };
 
@@ -171,8 +195,9 @@ enum ntske_tags { NTSKE_TAG_COOKIE = 1, NTSKE_TAG_DENIED = 2 };
 
 /* ---- what is lent for an answer ---------------------------------------------------------------
  *
- * Each struct is laid out as an array of size_t. A protocol, an algorithm, a port, a kind and a
- * code have sixteen bits; a flag (has_.., wants_.., keep_alive, critical, there) is 0 or 1.
+ * Each struct is laid out as an array of size_t; ntske_finding alone, with the ntske_seen in it, as
+ * one of uint16_t. A protocol, an algorithm, a port, a kind and a code have sixteen bits; a flag
+ * (has_.., wants_.., keep_alive, critical, there) is 0 or 1.
  */
 
 /* Some bytes of a message: where they begin, and how many there are. */
@@ -252,6 +277,24 @@ struct ntske_listed {
 struct ntske_choice {
     size_t protocol;
     size_t algorithm;
+};
+
+/* The records of one kind: how many there were, and where the body of the first one lies. */
+struct ntske_seen {
+    uint16_t count;                   /* 0 where there was none, and then all is 0 */
+    uint16_t start;
+    uint16_t len;                     /* of kind 12 both keys */
+};
+
+/*
+ * What a walk over a request found; made by ntske_walk_request. It is the host's to keep and to
+ * copy. One that is made or changed by hand is judged: see ntske_decide_request.
+ */
+struct ntske_finding {
+    uint16_t limit;                   /* after how many bytes the message was cut */
+    uint16_t place;                   /* of the first byte of the record that stopped the walk */
+    uint16_t reason;                  /* 0: the end record; 1, 2, 3 or 4: that refusal */
+    struct ntske_seen found[NTSKE_FOUND_KINDS]; /* by kind: see ntske_found_indices */
 };
 
 /*
@@ -354,8 +397,22 @@ NTSKE_CELL(ntske_connection, state, 4);
 NTSKE_CELL(ntske_connection, number, 5);
 NTSKE_CELL(ntske_connection, beside, 6);
 NTSKE_CELL(ntske_connection, place, 7);
+#define NTSKE_CELL16(type, field, i) \
+    NTSKE_ASSERT(offsetof(struct type, field) == (i) * sizeof(uint16_t), #type ", " #field)
+#define NTSKE_CELLS16(type, n) NTSKE_ASSERT(sizeof(struct type) == (n) * sizeof(uint16_t), #type)
+NTSKE_CELLS16(ntske_seen, 3);
+NTSKE_CELL16(ntske_seen, count, 0);
+NTSKE_CELL16(ntske_seen, start, 1);
+NTSKE_CELL16(ntske_seen, len, 2);
+NTSKE_CELLS16(ntske_finding, 48);
+NTSKE_CELL16(ntske_finding, limit, 0);
+NTSKE_CELL16(ntske_finding, place, 1);
+NTSKE_CELL16(ntske_finding, reason, 2);
+NTSKE_CELL16(ntske_finding, found, 3);
 #undef NTSKE_CELL
 #undef NTSKE_CELLS
+#undef NTSKE_CELL16
+#undef NTSKE_CELLS16
 #undef NTSKE_ASSERT
 
 /* ---- what a call returned -------------------------------------------------------------------- */
@@ -374,9 +431,9 @@ static inline int ntske_has_beside(uint64_t answer)
 static inline unsigned ntske_beside(uint64_t answer) { return (unsigned)(answer >> 16 & 0xFFFF); }
 
 /*
- * Of a refusal of a request's or a reply's reader, whole or in pieces, the place of the first byte
- * of the record concerned, which is the end record where it is decided after the end; of 16 the
- * place of the byte that has no room. Otherwise 0.
+ * Of a refusal of a request's or a reply's reader, whole, in two calls or in pieces, the place of
+ * the first byte of the record concerned, which is the end record where it is decided after the
+ * end; of 16 the place of the byte that has no room. Otherwise 0.
  */
 static inline unsigned long ntske_place(uint64_t answer) { return (unsigned long)(answer >> 32); }
 
@@ -393,7 +450,7 @@ static inline const char *ntske_words(uint64_t answer)
         "a key half has the wrong length",
         "more names or cookies than the table or the plan holds",
         "a body to write is longer than 65,535 bytes",
-        "the value is no record, plan, tray or connection",
+        "the value is no record, plan, tray, connection or finding",
         "the output is too short",
         "the reply has an error record",
         "the reply has a warning record",
@@ -490,6 +547,48 @@ uint64_t ntske_is_utf8(const uint8_t *bytes, size_t bytes_len);
  */
 uint64_t ntske_list(const uint8_t *message, size_t message_len, uint16_t limit, size_t room,
                     uint8_t *out, size_t out_len, size_t *written);
+
+/* ---- reading and deciding ---------------------------------------------------------------------
+ *
+ * Reading is one thing, deciding another. ntske_read_request in two calls, for a host that logs
+ * which records a request held, also where it is refused:
+ *
+ *     struct ntske_finding finding;
+ *     ntske_walk_request(message, len, NTSKE_LIMIT, &finding);
+ *     printf("%u names denied, %u unknown records, stopped at %u\n",
+ *            finding.found[NTSKE_FOUND_NTP_SERVER_DENY].count,
+ *            finding.found[NTSKE_FOUND_UNKNOWN].count, finding.place);
+ *     answer = ntske_decide_request(&finding, message, len, table, TABLE_LEN, &request);
+ *
+ * The walk goes from record to record until the end record, or one that is refused with 1, 2, 3 or
+ * 4, and tells how many of each kind there were. The end record counts, and so does a record that
+ * is refused with 3 or 4; one that does not read, which is refused with 1 or 2, does not. Unknown
+ * ones, kind 11 and 15 to 32,767, count together. So the counts add up to the records that
+ * ntske_list shows. Where the walk stopped at the end record, the decision may still refuse, with 4
+ * to 7.
+ *
+ * The pair answers as ntske_read_request, for every message, limit and table. The second call does
+ * not trust the finding: it walks once more, which ntske_read_request does not pay for.
+ */
+
+/*
+ * Walks over a message as if it were cut after `limit` bytes, and tells what it found, whether the
+ * request would be accepted or not. Refuses nothing.
+ */
+uint64_t ntske_walk_request(const uint8_t *message, size_t message_len, uint16_t limit,
+                            struct ntske_finding *finding);
+
+/*
+ * Decides from a finding: answers what ntske_read_request answers under the finding's limit, with
+ * the table as that leaves it. Refusals: 9 (its place is 0), before all others and changing
+ * nothing, for a finding that is not what ntske_walk_request gives over the lent message under the
+ * finding's own limit; then 1 to 7, at a place. So a number that was changed is 9, and another
+ * message's finding, unless the walk gives just that: under another limit that cuts nothing it
+ * does, or over a message that differs only in what bodies hold or behind the end record.
+ */
+uint64_t ntske_decide_request(const struct ntske_finding *finding, const uint8_t *message,
+                              size_t message_len, uint16_t *table, size_t table_len,
+                              struct ntske_request *answer);
 
 /* ---- reading in pieces ------------------------------------------------------------------------
  *

@@ -11,7 +11,7 @@ const BATCH: Duration = Duration::from_micros(500);
 const BATCHES: usize = 600;
 
 /// How many rows there are.
-const ROWS: usize = 12;
+const ROWS: usize = 14;
 
 /// Ends the run where the two sides' answers differ.
 pub fn same<T: PartialEq + Debug>(name: &str, ours: T, others: T) {
@@ -31,8 +31,8 @@ pub fn row(name: &str, bar: f64, ours: impl FnMut(), crates: impl FnMut()) {
     }
 }
 
-/// A line of a read in pieces, beside the whole-message reader of the library on the same bytes. There is a bar where
-/// one is asked for.
+/// A line of a read in two calls or in pieces, beside the whole-message reader of the library on the same bytes. There is a
+/// bar where one is asked for.
 pub fn row_whole(name: &str, bar: &str, ours: impl FnMut(), whole: impl FnMut()) {
     if let Some((ours, whole)) = in_turn(name, ours, whole) {
         println!("bench {name} ours {ours:.1} whole {whole:.1} bar {bar} ratio {:.2}", whole / ours);

@@ -29,6 +29,7 @@ fn main() {
     }
     println!("# the least time of many batches, in nanoseconds a call; nothing that is lent is cleared between calls");
     requests();
+    findings();
     pieces();
     replies();
     records();
@@ -62,6 +63,40 @@ fn requests() {
             },
         );
     }
+}
+
+/// A request of 150 names in two calls, each beside the library's own reader: the walk, and the decision from what it found.
+fn findings() {
+    let message = inputs::request(150);
+    let (mut table, mut other) = (vec![0; 2 * inputs::MOST_NAMES], vec![0; 2 * inputs::MOST_NAMES]);
+    let (mut answers, mut others) = (ours::Answers::default(), ours::Answers::default());
+    for cut in inputs::cuts(&message) {
+        clock::same("walk150", ours::in_two(cut, table.clone()), ours::whole(cut, table.clone()));
+    }
+    let (mut walked, mut finding) = (ours::no_finding(), ours::no_finding());
+    clock::row_whole(
+        "walk150",
+        "none",
+        || {
+            black_box(ours::walk_request(black_box(&message), black_box(&mut walked)));
+        },
+        || {
+            black_box(ours::read_request(black_box(&message), &mut other, &mut others));
+        },
+    );
+    ours::walk_request(&message, &mut finding);
+    clock::same("decide150", ours::decide_request(&finding, &message, &mut table, &mut answers), 0);
+    clock::row_whole(
+        "decide150",
+        "none",
+        || {
+            let (finding, message) = (black_box(&finding), black_box(&message));
+            black_box(ours::decide_request(finding, message, &mut table, &mut answers));
+        },
+        || {
+            black_box(ours::read_request(black_box(&message), &mut other, &mut others));
+        },
+    );
 }
 
 /// A request in pieces, beside the library's own reader of the whole: 150 names byte by byte, and 2,000 as a network hands

@@ -1,6 +1,6 @@
 //! The library's calls, by the package bindings/rust: its layer of one function a call, over slices and arrays.
 
-use ntske::raw::{self, ConnectionCells, Count, PlanCells, ReadCells, ReplyCells, RequestCells};
+use ntske::raw::{self, ConnectionCells, Count, FindingCells, PlanCells, ReadCells, ReplyCells, RequestCells};
 
 const LARGEST_LIMIT: u16 = ntske::LIMIT;
 
@@ -16,6 +16,21 @@ pub struct Answers {
 
 pub fn read_request(message: &[u8], table: &mut [u16], answers: &mut Answers) -> u64 {
     raw::read_request(message, LARGEST_LIMIT, table, &mut answers.request)
+}
+
+/// Cells for a finding.
+pub fn no_finding() -> FindingCells {
+    [0; 48]
+}
+
+/// The first of the two calls that read a request.
+pub fn walk_request(message: &[u8], finding: &mut FindingCells) -> u64 {
+    raw::walk_request(message, LARGEST_LIMIT, finding)
+}
+
+/// The second one.
+pub fn decide_request(finding: &FindingCells, message: &[u8], table: &mut [u16], answers: &mut Answers) -> u64 {
+    raw::decide_request(finding, message, table, &mut answers.request)
 }
 
 /// A request in pieces of so many bytes, one call each; 65,535 where the read still waits behind the last.
@@ -65,6 +80,14 @@ pub fn is_utf8(text: &[u8]) -> bool {
 pub fn whole(message: &[u8], mut table: Vec<u16>) -> (u64, RequestCells, Vec<u16>) {
     let mut answers = Answers::default();
     let word = read_request(message, &mut table, &mut answers);
+    (word, answers.request, table)
+}
+
+/// What comes of it in two calls.
+pub fn in_two(message: &[u8], mut table: Vec<u16>) -> (u64, RequestCells, Vec<u16>) {
+    let (mut answers, mut finding) = (Answers::default(), no_finding());
+    walk_request(message, &mut finding);
+    let word = decide_request(&finding, message, &mut table, &mut answers);
     (word, answers.request, table)
 }
 

@@ -2,6 +2,7 @@
 
 mod choices;
 mod choosing;
+mod findings;
 mod messages;
 mod names;
 mod orders;
@@ -42,6 +43,7 @@ pub fn corpus(name: &str, seed: u64, count: Option<u64>, out: &mut impl Write) -
         "sample-replies" => samples::replies(out)?,
         "sample-choosing" => samples::choosing(out)?,
         "sample-pieces" => samples::pieces(out)?,
+        "sample-findings" => samples::findings(out)?,
         "words" => words::every(seed, out)?,
         "names" => names::boundaries(out)?,
         "names3" => names::of_three(out)?,
@@ -58,6 +60,8 @@ pub fn corpus(name: &str, seed: u64, count: Option<u64>, out: &mut impl Write) -
         "orders" => orders::orders(&[REQUESTS, REPLIES], seed, count.unwrap_or(20_000), out)?,
         "pieces" => pieces::pieces(&[REQUESTS, REPLIES], seed, count.unwrap_or(50_000), out)?,
         "pieces-tokens" => pieces::pieces_of_tokens(&[REQUESTS, REPLIES], seed, out)?,
+        "findings" => findings::findings(seed, count.unwrap_or(150_000), out)?,
+        "findings-tokens" => findings::findings_of_tokens(seed, out)?,
         "choosing" => choosing::choosing(seed, count.unwrap_or(400_000), out)?,
         "writes" => writes::writes(seed, count.unwrap_or(200_000), out)?,
         _ => return Err(io::Error::other(format!("no corpus is named {name}"))),

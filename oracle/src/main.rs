@@ -21,6 +21,7 @@ mod nts {
     pub mod answer;
     pub mod choosing;
     mod feeding;
+    pub mod findings;
     pub mod lines;
     pub mod pieces;
     pub mod plans;

@@ -2,7 +2,10 @@
 
 use std::collections::BTreeMap;
 
+use crate::corpus::CRATES_LIMIT;
 use crate::nts::choosing::{self, NOT_THE_CRATES, NOT_THE_SERVERS, ODD_ALGORITHMS, ODD_PROTOCOLS};
+use crate::nts::findings::{self, ANOTHER_LIMIT, ITS_OWN_BYTES, NUMBERS, OTHER_BYTES, OTHER_COUNTS, OTHER_LENGTHS};
+use crate::nts::findings::{OTHER_PLACE, OTHER_REASON, OTHER_STARTS, THE_OTHERS_NUMBER, THE_SAME_NUMBER};
 use crate::nts::lines::DISAGREES;
 use crate::nts::pieces::{self, A_FULL_BUFFER, A_RECORD, NOTHING, THE_CLOSE, THE_LIMIT};
 use crate::nts::plans::{self, NOT_PLANNED, NOT_UTF8, OTHER_LENGTH};
@@ -11,7 +14,7 @@ use crate::nts::sending;
 use crate::nts::trays::{self, BEYOND, CUT, MANY_FIELDS, OTHER_TAG};
 
 /// The outcomes that can occur, by what the ops do.
-pub const FAMILIES: [(&str, &[&[&str]]); 26] = [
+pub const FAMILIES: [(&str, &[&[&str]]); 32] = [
     ("read", &[&KINDS, &["refused 1", "refused 2"]]),
     ("write", &[&KINDS, &["a part", "refused 8", "refused 10"], &NO_RECORD]),
     ("measure", &[&KINDS, &["refused 8", "refused 9"]]),
@@ -23,6 +26,12 @@ pub const FAMILIES: [(&str, &[&[&str]]); 26] = [
     ("fed reply", &[&REPLIES, &FED, &READ_BY]),
     ("fed reply ended by", &[&ENDED_BY]),
     ("fed reply by the copy, for", &[&[EMPTY_LIST, AUTHENTICATION, NO_COOKIE, MANY_COOKIES]]),
+    ("finding", &[&["ended", "refused 1", "refused 2", "refused 3", "refused 4"], &[UNDER_THE_CRATES_LIMIT]]),
+    ("finding with", &[&COUNTED]),
+    ("finding with more than one of", &[&COUNTED_TWICE]),
+    ("decided request", &[&REQUESTS, &[UNDER_THE_CRATES_LIMIT]]),
+    ("decided request by a finding let in with", &[&LET_IN]),
+    ("decided request refused 9 for", &[&NUMBERS, &OF_OTHER_BYTES]),
     ("choice", &[&["chosen", "refused 13", "refused 14"], &CHOSEN_BY]),
     ("choice refused 9 for", &[&[ODD_PROTOCOLS, ODD_ALGORITHMS]]),
     ("choice by the copy, for", &[&[NOT_THE_SERVERS, NOT_THE_CRATES]]),
@@ -81,6 +90,13 @@ const UNDER_THE_CRATES_LIMIT: &str = "answered under the crate's own limit";
 const JUDGED_EARLY: &str = "judged by the crate before it is whole";
 /// What ended the reading.
 const ENDED_BY: [&str; 5] = [A_RECORD, THE_LIMIT, THE_CLOSE, A_FULL_BUFFER, NOTHING];
+/// What a finding counts, and what it can count more than one of: an end record, an error, a warning or a cookie stops the
+/// walk.
+const COUNTED: [&str; 15] = ["0", "1", "2", "3", "4", "5", "6", "7", "8", "9", "10", "12", "13", "14", "unknown"];
+const COUNTED_TWICE: [&str; 11] = ["1", "4", "6", "7", "8", "9", "10", "12", "13", "14", "unknown"];
+/// With what a finding is let in, and what one of other bytes is refused for.
+const LET_IN: [&str; 5] = [ITS_OWN_BYTES, OTHER_BYTES, THE_SAME_NUMBER, ANOTHER_LIMIT, THE_OTHERS_NUMBER];
+const OF_OTHER_BYTES: [&str; 5] = [OTHER_COUNTS, OTHER_PLACE, OTHER_REASON, OTHER_STARTS, OTHER_LENGTHS];
 /// Whose line a reply's is: that of the crate's reader as it stands, which the edited copy's is then as well, or the edited
 /// copy's alone.
 const READ_BY: [&str; 2] = ["as the crate reads it", "by the copy with 01's four edits"];
@@ -134,8 +150,11 @@ const NO_RECORD: [&str; 11] = [
 
 /// Adds a case to its outcome's count and, if it is a reply's or a choice, to those of what it was compared with.
 pub fn count(counts: &mut BTreeMap<String, u64>, op: u8, payload: &[u8], line: &[u8]) {
-    if let b'f' | b'F' = op {
-        return count_fed(counts, op, payload, line);
+    match op {
+        b'f' | b'F' => return count_fed(counts, op, payload, line),
+        b'v' => return count_finding(counts, line),
+        b'V' => return count_decided(counts, payload, line),
+        _ => {}
     }
     let outcome = outcome(op, payload, line);
     let (family, by, difference) = match op {
@@ -180,6 +199,48 @@ fn count_fed(counts: &mut BTreeMap<String, u64>, op: u8, payload: &[u8], line: &
                 add(format!("fed {family} by the copy, for {difference}"));
             }
         }
+    }
+}
+
+/// Adds a finding to the counts of why the walk stopped, of what it met and of those under the crate's own limit.
+fn count_finding(counts: &mut BTreeMap<String, u64>, line: &[u8]) {
+    let mut add = |outcome| *counts.entry(outcome).or_default() += 1;
+    let line = String::from_utf8_lossy(line);
+    let words: Vec<&str> = line.split(' ').collect();
+    let &["limit", limit, numbers, stopped, ref why @ ..] = &words[..] else {
+        return add(line.into_owned());
+    };
+    add(if stopped == "refused" { format!("finding refused {}", why[0]) } else { format!("finding {stopped}") });
+    if limit == CRATES_LIMIT.to_string() {
+        add(format!("finding {UNDER_THE_CRATES_LIMIT}"));
+    }
+    for (kind, number) in COUNTED.into_iter().zip(numbers.trim_matches(['[', ']']).split(',')) {
+        if number != "0" {
+            add(format!("finding with {kind}"));
+        }
+        if number != "0" && number != "1" {
+            add(format!("finding with more than one of {kind}"));
+        }
+    }
+}
+
+/// Adds a decision from a finding to the counts of its outcome, of how the finding was judged and of those under the crate's
+/// own limit.
+fn count_decided(counts: &mut BTreeMap<String, u64>, payload: &[u8], line: &[u8]) {
+    let mut add = |outcome| *counts.entry(outcome).or_default() += 1;
+    let told = outcome(b'L', payload, line);
+    let (Some(judged), Some(answer)) = (findings::judged(payload), told.strip_prefix("request ")) else {
+        return add(told);
+    };
+    match judged.finding {
+        Ok(let_in) => {
+            add(format!("decided request {answer}"));
+            add(format!("decided request by a finding let in with {let_in}"));
+            if judged.under_the_crates_limit {
+                add(format!("decided request {UNDER_THE_CRATES_LIMIT}"));
+            }
+        }
+        Err(fault) => add(format!("decided request {answer} for {fault}")),
     }
 }
 

@@ -35,6 +35,11 @@ impl<'a> Payload<'a> {
         usize::try_from(u32::from_be_bytes(self.chunk()?)).ok()
     }
 
+    /// An eight-byte number.
+    pub fn long(&mut self) -> Option<u64> {
+        Some(u64::from_be_bytes(self.chunk()?))
+    }
+
     /// A four-byte length that an output or a tray may have.
     pub fn room(&mut self) -> Option<usize> {
         self.length().filter(|&room| room <= ROOM)

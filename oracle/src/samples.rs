@@ -1,6 +1,7 @@
 //! The stored sample: few and short cases, chosen so that each line of document 01 has its own.
 
 mod choosing;
+mod findings;
 mod named;
 mod pieces;
 mod reading;
@@ -9,6 +10,7 @@ mod requests;
 mod writing;
 
 pub use choosing::choosing;
+pub use findings::findings;
 pub use pieces::pieces;
 pub use reading::reading;
 pub use replies::replies;

@@ -1,9 +1,9 @@
 /*
  * Calls every function of include/ntske.h on good and bad input, and looks at what is returned and at every byte that was lent: what is answered, what is
  * written, and that all else is as it was; on every refusal all is as it was, but for buffer and connection of a read in pieces. Each writer is called with
- * an output that is too short, just long enough and longer; each message that is fed is cut at every place. All is run twice: with guard bytes around each
- * buffer, and with each buffer at the end of a page that no page follows. The expected bytes are worked out by hand from document 01.
- * The last line is 'N checks, M failed'; the status is 0 only for M = 0.
+ * an output that is too short, just long enough and longer; each message that is fed is cut at every place; of a finding each number is changed. All is run
+ * twice: with guard bytes around each buffer, and with each buffer at the end of a page that no page follows. The expected bytes are worked out by hand from
+ * document 01. The last line is 'N checks, M failed'; the status is 0 only for M = 0.
  */
 #define _DEFAULT_SOURCE
 #include "ntske.h"
@@ -42,6 +42,7 @@ struct words { size_t n; const uint16_t *p; };
 #define CHOICE(...) ((struct ntske_choice){__VA_ARGS__})
 #define PLAN(...) ((struct ntske_plan){__VA_ARGS__})
 #define CONNECTION(...) ((struct ntske_connection){__VA_ARGS__})
+#define FINDING(...) ((struct ntske_finding){__VA_ARGS__})
 
 /* A reader's refusal: its number, the number beside it, and its place. */
 static uint64_t with(unsigned number, unsigned beside, unsigned long place)
@@ -216,7 +217,58 @@ static void after(const char *what, uint64_t got, uint64_t want)
 
 /* ---- reading ---- */
 
-/* What is read, and under which limit and with how many cells of a table; the answer is looked at where it is accepted. */
+/* What is decided from a finding over a message, with how many cells of a table; the answer is looked at where it is accepted. */
+static void decide(const char *what, struct ntske_finding finding, struct bytes m, size_t cells, uint64_t want, struct ntske_request answer, struct words table)
+{
+    struct ntske_finding *f = lend(&finding, sizeof finding);
+    uint8_t *lent_m = lend(m.p, m.n);
+    uint16_t *t = lend(NULL, cells * sizeof(uint16_t));
+    struct ntske_request *a = lend(NULL, sizeof *a);
+    uint64_t got = ntske_decide_request(f, lent_m, m.n, t, cells, a);
+    if (want == NTSKE_OK) {
+        becomes(a, 0, &answer, sizeof answer);
+        becomes(t, 0, table.p, table.n * sizeof(uint16_t));
+    }
+    after(what, got, want);
+}
+
+static void decide_refused(const char *what, struct ntske_finding finding, struct bytes m, size_t cells, uint64_t want)
+{
+    decide(what, finding, m, cells, want, support(PART(0, 0), 0, 0, 0), NO_WORDS);
+}
+
+/* The finding of a walk. */
+static struct ntske_finding walked(const char *what, struct bytes m, uint16_t limit)
+{
+    struct ntske_finding finding;
+    uint8_t *lent_m = lend(m.p, m.n);
+    struct ntske_finding *f = lend(NULL, sizeof *f);
+    uint64_t got = ntske_walk_request(lent_m, m.n, limit, f);
+    memcpy(&finding, f, sizeof finding);
+    becomes(f, 0, &finding, sizeof finding);
+    after(what, got, NTSKE_OK);
+    return finding;
+}
+
+/* A walk that finds this, and each number of it but the limit changed, which is no finding of the message then. */
+static void walk(const char *what, struct bytes m, uint16_t limit, struct ntske_finding want)
+{
+    struct ntske_finding finding = walked(what, m, limit);
+    check(memcmp(&finding, &want, sizeof want) == 0, what, "the finding", finding.place);
+    for (size_t i = 1; i < sizeof want / sizeof(uint16_t); i++) {
+        static const uint16_t by[] = {1, 65535, 32768};
+        for (size_t j = 0; j < sizeof by / sizeof *by; j++) {
+            uint16_t numbers[sizeof want / sizeof(uint16_t)];
+            memcpy(numbers, &want, sizeof want);
+            numbers[i] = (uint16_t)(numbers[i] + by[j]);
+            memcpy(&finding, numbers, sizeof finding);
+            decide_refused(what, finding, m, 4, at(9, 0));
+        }
+    }
+}
+
+/* What is read, and under which limit and with how many cells of a table; the answer is looked at where it is accepted. The walk and the decision from what it
+   finds answer the same. */
 static void request(const char *what, struct bytes m, uint16_t limit, size_t cells, uint64_t want, struct ntske_request answer, struct words table)
 {
     uint8_t *lent_m = lend(m.p, m.n);
@@ -228,6 +280,7 @@ static void request(const char *what, struct bytes m, uint16_t limit, size_t cel
         becomes(t, 0, table.p, table.n * sizeof(uint16_t));
     }
     after(what, got, want);
+    decide(what, walked(what, m, limit), m, cells, want, answer, table);
 }
 
 static void request_refused(const char *what, struct bytes m, uint16_t limit, size_t cells, uint64_t want)
@@ -803,6 +856,88 @@ static void reading(void)
     utf8(join(times(70000, H("61")), H("C3")), 0);
 }
 
+static void deciding(void)
+{
+    struct bytes m = H("8001 0002 0000 8004 0002 000F 8000 0000");
+    struct ntske_request read = key_exchange(PART(4, 2), PART(10, 2), 0);
+    struct ntske_finding found = FINDING(.limit = NTSKE_LIMIT, .place = 12, .found = {
+        [NTSKE_FOUND_END_OF_MESSAGE] = {1, 16, 0}, [NTSKE_FOUND_NEXT_PROTOCOL] = {1, 4, 2}, [NTSKE_FOUND_AEAD_ALGORITHM] = {1, 10, 2}});
+    struct ntske_finding cut = found, none = FINDING(.limit = NTSKE_LIMIT, .reason = NTSKE_UNEXPECTED_EOF);
+    cut.limit = 15, cut.reason = NTSKE_UNEXPECTED_EOF;
+    memset(&cut.found[NTSKE_FOUND_END_OF_MESSAGE], 0, sizeof *cut.found);
+    walk("the request of document 01", m, NTSKE_LIMIT, found);
+    walk("the same behind the end", join(m, H("FFFF")), NTSKE_LIMIT, found);
+    walk("limit 15: 1", m, 15, cut);
+    walk("no byte: 1", NO_BYTES, NTSKE_LIMIT, none);
+    none.limit = 0;
+    walk("limit 0: 1", m, 0, none);
+    walk("a port of three bytes: 2", H("0008 0000 0008 0002 FFFF 8007 0003 007B"), NTSKE_LIMIT,
+         FINDING(.limit = NTSKE_LIMIT, .place = 10, .reason = NTSKE_INVALID_DATA, .found = {[NTSKE_FOUND_KEEP_ALIVE] = {2, 4, 0}}));
+    walk("unknown ones, the last with its bit set: 3", H("7FFF 0001 AA 000B 0000 800F 0002 0102 8000 0000"), NTSKE_LIMIT,
+         FINDING(.limit = NTSKE_LIMIT, .place = 9, .reason = NTSKE_UNRECOGNIZED_CRITICAL_RECORD, .found = {[NTSKE_FOUND_UNKNOWN] = {3, 4, 1}}));
+    walk("a second list: 4", H("8001 0002 0000 8001 0000 8000 0000"), NTSKE_LIMIT,
+         FINDING(.limit = NTSKE_LIMIT, .place = 6, .reason = NTSKE_INVALID, .found = {[NTSKE_FOUND_NEXT_PROTOCOL] = {2, 4, 2}}));
+    walk("an error: 4", H("8002 0002 0001"), NTSKE_LIMIT, FINDING(.limit = NTSKE_LIMIT, .reason = NTSKE_INVALID, .found = {[NTSKE_FOUND_ERROR] = {1, 4, 2}}));
+    walk("a warning: 4", H("8003 0002 0001"), NTSKE_LIMIT, FINDING(.limit = NTSKE_LIMIT, .reason = NTSKE_INVALID, .found = {[NTSKE_FOUND_WARNING] = {1, 4, 2}}));
+    walk("a cookie: 4", H("0005 0000"), NTSKE_LIMIT, FINDING(.limit = NTSKE_LIMIT, .reason = NTSKE_INVALID, .found = {[NTSKE_FOUND_NEW_COOKIE] = {1, 4, 0}}));
+    struct bytes many = join(times(16382, H("7FFF 0000")), H("8000 0000"));
+    struct ntske_finding last = FINDING(.limit = NTSKE_LIMIT, .place = 65528, .found = {
+        [NTSKE_FOUND_END_OF_MESSAGE] = {1, 65532, 0}, [NTSKE_FOUND_UNKNOWN] = {16382, 4, 0}});
+    walk("the last place", many, NTSKE_LIMIT, last);
+    decide_refused("an end behind unknown ones alone", last, many, 4, at(4, 65528));
+
+    /* every kind that a request may hold, and a refusal that is decided behind the end */
+    struct bytes all = join(H("8001 0000 8004 0000 8006 0001 61 8007 0002 007B 0008 0000 8009 0000 800A 0000 000B 0000 800C 0000"),
+                            H("000D 0001 62 000D 0000 000E 0000 8000 0001 FF"));
+    struct ntske_finding each = FINDING(.limit = NTSKE_LIMIT, .place = 52, .found = {
+        [NTSKE_FOUND_END_OF_MESSAGE] = {1, 56, 1}, [NTSKE_FOUND_NEXT_PROTOCOL] = {1, 4, 0}, [NTSKE_FOUND_AEAD_ALGORITHM] = {1, 8, 0},
+        [NTSKE_FOUND_SERVER] = {1, 12, 1}, [NTSKE_FOUND_PORT] = {1, 17, 2}, [NTSKE_FOUND_KEEP_ALIVE] = {1, 23, 0}, [NTSKE_FOUND_SUPPORTED_NEXT_PROTOCOL_LIST] = {1, 27, 0},
+        [NTSKE_FOUND_SUPPORTED_ALGORITHM_LIST] = {1, 31, 0}, [NTSKE_FOUND_UNKNOWN] = {1, 35, 0}, [NTSKE_FOUND_FIXED_KEY_REQUEST] = {1, 39, 0},
+        [NTSKE_FOUND_NTP_SERVER_DENY] = {2, 43, 1}, [NTSKE_FOUND_AUTHENTICATION] = {1, 52, 0}});
+    walk("every kind", all, NTSKE_LIMIT, each);
+    decide_refused("every kind", each, all, 4, at(4, 52));
+
+    /* the finding's own limit counts: another one, under which the walk finds the same, is a finding, too */
+    struct ntske_finding other = found;
+    decide("decided", found, m, 4, 0, read, NO_WORDS);
+    decide_refused("cut by the limit", cut, m, 4, at(1, 12));
+    other.limit = 16;
+    decide("limit 16", other, m, 4, 0, read, NO_WORDS);
+    decide("limit 16, and bytes behind it", other, join(m, H("FFFF")), 0, 0, read, NO_WORDS);
+    other.limit = 15;
+    decide_refused("limit 15 of a whole request", other, m, 4, at(9, 0));
+    other.limit = 0;
+    decide_refused("limit 0 of a whole request", other, m, 4, at(9, 0));
+    cut.limit = 16;
+    decide_refused("limit 16 of a request that was cut", cut, m, 4, at(9, 0));
+
+    /* a reason that no walk has */
+    static const uint16_t reasons[] = {5, 6, 7, 9, 16, 255, 256, 65535};
+    for (size_t i = 0; i < sizeof reasons / sizeof *reasons; i++) {
+        other = found, other.reason = reasons[i];
+        decide_refused("another reason", other, m, 4, at(9, 0));
+    }
+
+    /* another message, and 9 before all others */
+    struct bytes denied = H("8001 0002 0000 8004 0002 000F 000D 0003 612E62 000D 0001 63 8000 0000");
+    struct ntske_finding two = walked("two names", denied, NTSKE_LIMIT), three = two;
+    check(two.found[NTSKE_FOUND_NTP_SERVER_DENY].count == 2 && two.found[NTSKE_FOUND_NTP_SERVER_DENY].start == 16, "two names", "found", two.place);
+    three.found[NTSKE_FOUND_NTP_SERVER_DENY].count = 3;
+    decide("two names", two, denied, 5, 0, key_exchange(PART(4, 2), PART(10, 2), 2), WORDS(16, 3, 23, 1));
+    decide_refused("two names, three cells", two, denied, 3, at(7, 24));
+    decide_refused("three names of two, three cells", three, denied, 3, at(9, 0));
+    decide_refused("three names of two", three, denied, 6, at(9, 0));
+    decide_refused("another message", found, denied, 4, at(9, 0));
+    decide_refused("another message, without names", two, m, 4, at(9, 0));
+    decide_refused("the message cut", found, (struct bytes){15, m.p}, 4, at(9, 0));
+    decide_refused("no message", found, NO_BYTES, 0, at(9, 0));
+    decide_refused("a message that is cut elsewhere", cut, NO_BYTES, 0, at(9, 0));
+    decide_refused("nothing but zeros", FINDING(.limit = 0), m, 4, at(9, 0));
+    struct ntske_finding full;
+    memset(&full, 0xFF, sizeof full);
+    decide_refused("the largest numbers", full, m, 4, at(9, 0));
+}
+
 static void feeding(void)
 {
     struct bytes m = H("8001 0002 0000 8004 0002 000F 8000 0000"), more = join(m, H("FFFFFFFFFF")), less = {15, m.p};
@@ -1238,7 +1373,7 @@ static void header(void)
         "a key half has the wrong length",
         "more names or cookies than the table or the plan holds",
         "a body to write is longer than 65,535 bytes",
-        "the value is no record, plan, tray or connection",
+        "the value is no record, plan, tray, connection or finding",
         "the output is too short",
         "the reply has an error record",
         "the reply has a warning record",
@@ -1285,6 +1420,7 @@ int main(void)
     for (at_the_end_of_a_page = 0; at_the_end_of_a_page < 2; at_the_end_of_a_page++) {
         taken = 0;
         reading();
+        deciding();
         feeding();
         connections();
         listing();

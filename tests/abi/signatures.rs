@@ -3,33 +3,37 @@
 //! Reads each `#[no_mangle] pub extern "C" fn` of the crates with calls, puts its arguments into C's and into Rust's form, and compares them, by
 //! name, type and order, with include/ntske.h and with bindings/rust/src/raw.rs; compares the functions that `nm` shows in the archive, which
 //! may need nothing from outside but what a compiler itself calls to move memory; and asks that tests/abi/calls.c calls each, and each inline
-//! function of the header. An array that is lent is a struct in C: it has as many cells as the array, and the header asserts where each field
-//! lies. The numbers of the header are held against the source, too, its words against bindings/rust/src/refusal.rs, and its lines have at most
+//! function of the header. An array that is lent is a struct in C: it has as many cells as the array, each of its type, and the header asserts where
+//! each field lies. The numbers of the header are held against the source, too, its words against bindings/rust/src/refusal.rs, and its lines have at most
 //! 100 columns. One line a function; the status is 0 only where nothing differs.
 
 use std::collections::BTreeMap;
 use std::process::{Command, ExitCode};
 
 /// The crates that have calls of a host.
-const CRATES: [&str; 6] = ["reading", "feeding", "handing", "planning", "writing", "showing"];
+const CRATES: [&str; 7] = ["reading", "deciding", "feeding", "handing", "planning", "writing", "showing"];
 
-/// The struct in C of a lent array: the function (of any where there is none), the argument, how many cells, and the struct.
-const STRUCTS: [(&str, &str, usize, &str); 15] = [
-    ("ntske_read_request", "answer", 10, "ntske_request"),
-    ("ntske_read_reply", "answer", 9, "ntske_reply"),
-    ("ntske_feed_request", "answer", 10, "ntske_request"),
-    ("ntske_close_request", "answer", 10, "ntske_request"),
-    ("ntske_feed_reply", "answer", 9, "ntske_reply"),
-    ("ntske_close_reply", "answer", 9, "ntske_reply"),
-    ("ntske_read_record", "answer", 8, "ntske_record_read"),
-    ("ntske_part", "answer", 2, "ntske_range"),
-    ("ntske_entry", "answer", 2, "ntske_range"),
-    ("ntske_number", "answer", 3, "ntske_listed"),
-    ("ntske_pair", "answer", 3, "ntske_listed"),
-    ("ntske_choose", "answer", 2, "ntske_choice"),
-    ("", "connection", 8, "ntske_connection"),
-    ("", "plan", 8, "ntske_plan"),
-    ("", "item", 7, "ntske_record"),
+/// The struct in C of a lent array: the function (of any where there is none), the argument, what a cell is, how many there are, and the struct. The
+/// last one is no argument's: a finding has an array of them.
+const STRUCTS: [(&str, &str, &str, usize, &str); 18] = [
+    ("ntske_read_request", "answer", "usize", 10, "ntske_request"),
+    ("ntske_read_reply", "answer", "usize", 9, "ntske_reply"),
+    ("ntske_decide_request", "answer", "usize", 10, "ntske_request"),
+    ("ntske_feed_request", "answer", "usize", 10, "ntske_request"),
+    ("ntske_close_request", "answer", "usize", 10, "ntske_request"),
+    ("ntske_feed_reply", "answer", "usize", 9, "ntske_reply"),
+    ("ntske_close_reply", "answer", "usize", 9, "ntske_reply"),
+    ("ntske_read_record", "answer", "usize", 8, "ntske_record_read"),
+    ("ntske_part", "answer", "usize", 2, "ntske_range"),
+    ("ntske_entry", "answer", "usize", 2, "ntske_range"),
+    ("ntske_number", "answer", "usize", 3, "ntske_listed"),
+    ("ntske_pair", "answer", "usize", 3, "ntske_listed"),
+    ("ntske_choose", "answer", "usize", 2, "ntske_choice"),
+    ("", "connection", "usize", 8, "ntske_connection"),
+    ("", "plan", "usize", 8, "ntske_plan"),
+    ("", "item", "usize", 7, "ntske_record"),
+    ("", "finding", "u16", 48, "ntske_finding"),
+    ("", "found", "u16", 3, "ntske_seen"),
 ];
 
 /// Name, arguments and result, as text in one spacing.
@@ -98,7 +102,7 @@ fn main() -> ExitCode {
     {
         differs(format!("{name}: the archive needs it from outside"));
     }
-    header.layouts(&header_text).into_iter().for_each(&mut differs);
+    header.layouts().into_iter().for_each(&mut differs);
     numbers(&header_text, &read).into_iter().for_each(&mut differs);
     words(&header_text, &read("bindings/rust/src/refusal.rs")).into_iter().for_each(&mut differs);
     for (i, line) in header_text.lines().enumerate().filter(|(_, line)| line.chars().count() > 100) {
@@ -147,7 +151,7 @@ fn rust_signature(text: &str) -> (String, Signature) {
 enum Type<'t> {
     Number(&'t str),
     Slice { element: &'t str, written: bool },
-    Array { cells: usize, written: bool },
+    Array { element: &'t str, cells: usize, written: bool },
 }
 
 fn type_of(text: &str) -> Type<'_> {
@@ -156,8 +160,7 @@ fn type_of(text: &str) -> Type<'_> {
     let inner = lent.strip_prefix('[').and_then(|lent| lent.strip_suffix(']')).expect("a slice or an array");
     match inner.split_once("; ") {
         None => Type::Slice { element: inner, written },
-        Some(("usize", cells)) => Type::Array { cells: cells.parse().expect("a length"), written },
-        Some((element, _)) => panic!("no form for an array of {element}"),
+        Some((element, cells)) => Type::Array { element, cells: cells.parse().expect("a length"), written },
     }
 }
 
@@ -177,8 +180,8 @@ fn in_c(function: &str, source: &Signature) -> Signature {
         Type::Slice { element, written } => {
             vec![format!("{}{} *{name}", constant(written), c_number(element)), format!("size_t {name}_len")]
         }
-        Type::Array { cells, written } => {
-            vec![format!("{}{} *{name}", constant(written), array(function, name, cells))]
+        Type::Array { element, cells, written } => {
+            vec![format!("{}{} *{name}", constant(written), array(function, name, element, cells))]
         }
     });
     if arguments.is_empty() {
@@ -194,19 +197,20 @@ fn in_rust(source: &Signature) -> Signature {
         Type::Slice { element, written } => {
             vec![format!("{name}: {} {element}", pointer(written)), format!("{name}_len: usize")]
         }
-        Type::Array { cells, written } => vec![format!("{name}: {} [usize; {cells}]", pointer(written))],
+        Type::Array { element, cells, written } => vec![format!("{name}: {} [{element}; {cells}]", pointer(written))],
     });
     Signature { arguments, result: source.result.clone() }
 }
 
-/// The type in C of a lent array: one cell is a `size_t`, more are a struct.
-fn array(function: &str, argument: &str, cells: usize) -> String {
-    let fits =
-        |of: &(&str, &str, usize, &str)| (of.0.is_empty() || of.0 == function) && of.1 == argument && of.2 == cells;
-    match STRUCTS.iter().find(|of| fits(of)) {
-        Some(of) => format!("struct {}", of.3),
-        None if cells == 1 => "size_t".into(),
-        None => panic!("{function}: no struct is known for {argument} of {cells} cells"),
+/// The type in C of a lent array: one cell is a number, more are a struct.
+fn array(function: &str, argument: &str, element: &str, cells: usize) -> String {
+    let fits = |of: &&(&str, &str, &str, usize, &str)| {
+        (of.0.is_empty() || of.0 == function) && (of.1, of.2, of.3) == (argument, element, cells)
+    };
+    match STRUCTS.iter().find(fits) {
+        Some(of) => format!("struct {}", of.4),
+        None if cells == 1 => c_number(element).into(),
+        None => panic!("{function}: no struct is known for {argument} of {cells} cells of {element}"),
     }
 }
 
@@ -222,9 +226,10 @@ fn c_number(ty: &str) -> &'static str {
 
 // ---- the header
 
-/// What a header has: the functions that it declares, those that it defines, and its structs with their fields, `type name` each; a union
+/// What a header has: its text, the functions that it declares, those that it defines, and its structs with their fields, `type name` each; a union
 /// without a name is the field `union` with its members behind it.
 struct Header {
+    text: String,
     declared: Signatures,
     inline: Vec<String>,
     structs: BTreeMap<String, Vec<String>>,
@@ -232,7 +237,8 @@ struct Header {
 
 impl Header {
     fn of(text: &str) -> Self {
-        let mut header = Self { declared: Signatures::new(), inline: vec![], structs: BTreeMap::new() };
+        let (declared, structs) = (Signatures::new(), BTreeMap::new());
+        let mut header = Self { text: text.into(), declared, inline: vec![], structs };
         for item in items(&plain(text)) {
             let (head, inside) = item.split_once('{').unwrap_or((&item, ""));
             let words: Vec<&str> = head.split_whitespace().collect();
@@ -261,53 +267,63 @@ impl Header {
         header
     }
 
-    /// How many cells a type has.
-    fn cells(&self, ty: &str) -> usize {
+    /// How many cells a type has, where each is a number of the type `cell`.
+    fn cells(&self, ty: &str, cell: &str) -> usize {
         match ty.strip_prefix("struct ") {
-            None if ty == "size_t" => 1,
-            None => panic!("a field of a struct is no {ty}"),
-            Some(name) => self.fields(name).iter().map(|(_, at, n)| at + n).max().expect("a struct has a field"),
+            None if ty == cell => 1,
+            None => panic!("a field of a struct of {cell} is no {ty}"),
+            Some(name) => self.fields(name, cell).iter().map(|(_, at, n)| at + n).max().expect("a struct has a field"),
         }
     }
 
     /// The fields of a struct: the path to each, where it begins, and how many cells it has. Of a union's members the fields are told.
-    fn fields(&self, name: &str) -> Vec<(String, usize, usize)> {
+    fn fields(&self, name: &str, cell: &str) -> Vec<(String, usize, usize)> {
         let (mut found, mut at) = (vec![], 0);
         for field in self.structs.get(name).unwrap_or_else(|| panic!("no struct {name}")) {
             if let Some(members) = field.strip_prefix("union {").and_then(|rest| rest.strip_suffix('}')) {
                 let mut most = 0;
                 for (ty, name) in split_at(members, ';').iter().map(|member| typed(member)) {
                     let of = ty.strip_prefix("struct ").expect("a union is of structs");
-                    for (path, offset, n) in self.fields(of) {
+                    for (path, offset, n) in self.fields(of, cell) {
                         found.push((format!("{name}.{path}"), at + offset, n));
                     }
-                    most = most.max(self.cells(&ty));
+                    most = most.max(self.cells(&ty, cell));
                 }
                 at += most;
             } else {
                 let (ty, name) = typed(field);
-                let n = self.cells(&ty);
-                found.push((name, at, n));
+                let (name, times) = self.times(&name);
+                let n = times * self.cells(&ty, cell);
+                found.push((name.into(), at, n));
                 at += n;
             }
         }
         found
     }
 
+    /// A field's name, and how many of its type it has: one, or as many as a number of the header says.
+    fn times<'f>(&self, field: &'f str) -> (&'f str, usize) {
+        let Some((name, rest)) = field.split_once('[') else { return (field, 1) };
+        let times = rest.strip_suffix(']').expect("the end of a length");
+        (name, number(between(&self.text, &format!("#define {times} "), "\n")) as usize)
+    }
+
     /// That each struct which is lent has as many cells as the array, and that the header asserts its size and where each field lies.
-    fn layouts(&self, text: &str) -> Vec<String> {
+    fn layouts(&self) -> Vec<String> {
         let mut found = vec![];
-        for (_, argument, cells, name) in STRUCTS {
-            let told = self.cells(&format!("struct {name}"));
+        for (_, argument, element, cells, name) in STRUCTS {
+            let cell = c_number(element);
+            let told = self.cells(&format!("struct {name}"), cell);
             if told != cells {
                 found.push(format!("struct {name}: {told} cells, and {argument} has {cells}"));
             }
-            let mut asserted = vec![format!("NTSKE_CELLS({name}, {cells});")];
-            for (path, at, _) in self.fields(name) {
-                asserted.push(format!("NTSKE_CELL({name}, {path}, {at});"));
+            let bits = if cell == "size_t" { "" } else { cell.trim_matches(|c: char| !c.is_ascii_digit()) };
+            let mut asserted = vec![format!("NTSKE_CELLS{bits}({name}, {cells});")];
+            for (path, at, _) in self.fields(name, cell) {
+                asserted.push(format!("NTSKE_CELL{bits}({name}, {path}, {at});"));
             }
             for line in asserted {
-                if !text.lines().any(|there| there == line) {
+                if !self.text.lines().any(|there| there == line) {
                     found.push(format!("struct {name}: the header does not say {line}"));
                 }
             }
@@ -376,7 +392,7 @@ fn numbers(header: &str, read: &impl Fn(&str) -> String) -> Vec<String> {
     let crate_text = |name: &str| read(&format!("crates/{name}/src/lib.rt"));
     let (nts, record, plan) = (crate_text("nts"), crate_text("record"), crate_text("plan"));
     let (reading, writing, cells) = (crate_text("reading"), crate_text("writing"), crate_text("cells"));
-    let (handing, feeding) = (crate_text("handing"), crate_text("feeding"));
+    let (handing, feeding, walk) = (crate_text("handing"), crate_text("feeding"), crate_text("walk"));
     let mut found = vec![];
 
     let error_arms = |function: &str| arms(between(&nts, function, "\n    }\n"), "NtsError::");
@@ -395,6 +411,10 @@ fn numbers(header: &str, read: &impl Fn(&str) -> String) -> Vec<String> {
         (name.to_ascii_uppercase(), value)
     });
     let (kinds, codes) = (constants(&record, "NtsRecord"), constants(&nts, "ErrorCode"));
+    let in_walk = |name: &str| number(between(&walk, &format!("\nconst {name}: usize = "), ";"));
+    let mut indices = kinds.clone();
+    indices.push(("UNKNOWN".into(), in_walk("UNKNOWN")));
+    indices.sort_by_key(|(_, value)| *value);
     let (algorithms, keys): (Numbers, Numbers) =
         constants(&nts, "AeadAlgorithm").into_iter().partition(|(name, _)| name.starts_with("AES_"));
     let of_plan = constants(&plan, "Plan");
@@ -403,6 +423,7 @@ fn numbers(header: &str, read: &impl Fn(&str) -> String) -> Vec<String> {
     for (name, prefix, ours, least) in [
         ("ntske_refusals", "NTSKE_", refusals, 16),
         ("ntske_kinds", "NTSKE_KIND_", kinds, 14),
+        ("ntske_found_indices", "NTSKE_FOUND_", indices, 15),
         ("ntske_sorts", "NTSKE_", sorts, 3),
         ("ntske_protocols", "NTSKE_", constants(&nts, "NextProtocol"), 2),
         ("ntske_algorithms", "NTSKE_", algorithms, 2),
@@ -431,6 +452,7 @@ fn numbers(header: &str, read: &impl Fn(&str) -> String) -> Vec<String> {
         ("WAITING", waiting),
         ("MOST_COOKIES", one("COOKIES")),
         ("FIELD_HEADER", one("FIELD_HEADER")),
+        ("FOUND_KINDS", in_walk("KINDS")),
         ("LIMIT", u64::from(u16::MAX)),
         ("LISTING", number(between(&read("crates/kelist/src/main.rt"), "let mut out = [0u8; ", "]"))),
         ("OK", 0),

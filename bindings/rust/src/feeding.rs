@@ -79,7 +79,8 @@ impl Connection {
         self.0[1]
     }
 
-    /// Hands over a piece of a request, which may be empty. Refusals: 9, 1 to 7, 16.
+    /// Hands over a piece of a request, which may be empty. Refusals: 9, 1 to 7, 16; and the one that the connection
+    /// holds.
     pub fn feed_request<'b, 't>(
         &mut self,
         piece: &[u8],
@@ -106,7 +107,8 @@ impl Connection {
         self.request(word, &answer, again, buffer, table)
     }
 
-    /// Hands over a piece of a reply, which may be empty. Refusals: 9, 1 to 4, 7, 11 to 16.
+    /// Hands over a piece of a reply, which may be empty. Refusals: 9, 1 to 4, 7, 11 to 16; and the one that the
+    /// connection holds.
     pub fn feed_reply<'b, 't>(
         &mut self,
         piece: &[u8],

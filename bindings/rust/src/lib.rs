@@ -1,14 +1,14 @@
-//! The key exchange of Network Time Security (RFC 8915) for a host in Rust: the calls of crates/reading, feeding,
-//! handing, planning, writing and showing, which are proved to meet their contracts, under types that keep a message,
-//! its parts and its tables together. Nothing is allocated, and no call reads or keeps anything but what is lent to it.
-//! TLS, keys and ciphers are the host's.
+//! The key exchange of Network Time Security (RFC 8915) for a host in Rust: the calls of crates/reading, deciding,
+//! feeding, handing, planning, writing and showing, which are proved to meet their contracts, under types that keep a
+//! message, its parts and its tables together. Nothing is allocated, and no call reads or keeps anything but what is
+//! lent to it. TLS, keys and ciphers are the host's.
 //!
 //! A call that is refused changes nothing that was lent to it, but for a [`Connection`] and its buffer. Its [`Refused`]
 //! has a number, words, and the code that a server answers with ([`Refused::error_code`]); a reader's [`Refusal`] has a
 //! place besides. `{:?}` shows no key, no cookie and no authentication.
 //!
-//! A host that takes a message off a line feeds a [`Connection`] with what comes, as it comes. A server, once a whole
-//! request is there:
+//! A host that takes a message off a line feeds a [`Connection`] with what comes, as it comes. One that logs which
+//! records a request held, also where it is refused, looks at a [`Finding`]. A server, once a whole request is there:
 //!
 //! ```
 //! use ntske::*;
@@ -50,6 +50,7 @@
 #![no_std]
 #![deny(missing_docs, unsafe_code)]
 
+mod deciding;
 mod feeding;
 mod numbers;
 mod planning;
@@ -64,6 +65,7 @@ mod refusal;
 mod views;
 mod writing;
 
+pub use deciding::{Finding, Kind};
 pub use feeding::{Connection, Fed};
 pub use numbers::{
     exporter_context, version, AeadAlgorithm, AlgorithmDescription, ErrorCode, NextProtocol, WarningCode, ALPN,

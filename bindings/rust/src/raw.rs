@@ -26,6 +26,15 @@ extern "C" {
         table_len: usize,
         answer: *mut [usize; 9],
     ) -> u64;
+    fn ntske_walk_request(message: *const u8, message_len: usize, limit: u16, finding: *mut [u16; 48]) -> u64;
+    fn ntske_decide_request(
+        finding: *const [u16; 48],
+        message: *const u8,
+        message_len: usize,
+        table: *mut u16,
+        table_len: usize,
+        answer: *mut [usize; 10],
+    ) -> u64;
     fn ntske_connection_new(limit: u16, connection: *mut [usize; 8]) -> u64;
     fn ntske_feed_request(
         connection: *mut [usize; 8],
@@ -216,6 +225,9 @@ pub type RequestCells = [usize; 10];
 /// A reply that was read.
 pub type ReplyCells = [usize; 9];
 
+/// What a walk over a request found.
+pub type FindingCells = [u16; 48];
+
 /// A read in pieces.
 pub type ConnectionCells = [usize; 8];
 
@@ -266,6 +278,18 @@ pub fn read_request(message: &[u8], limit: u16, table: &mut [u16], answer: &mut 
 pub fn read_reply(message: &[u8], limit: u16, table: &mut [u16], answer: &mut ReplyCells) -> u64 {
     // Safety: message and table are slices, answer an array; the last two are borrowed alone.
     unsafe { ntske_read_reply(message.as_ptr(), message.len(), limit, table.as_mut_ptr(), table.len(), answer) }
+}
+
+#[inline]
+pub fn walk_request(message: &[u8], limit: u16, finding: &mut FindingCells) -> u64 {
+    // Safety: message is a slice, and finding an array that is borrowed alone.
+    unsafe { ntske_walk_request(message.as_ptr(), message.len(), limit, finding) }
+}
+
+#[inline]
+pub fn decide_request(finding: &FindingCells, message: &[u8], table: &mut [u16], answer: &mut RequestCells) -> u64 {
+    // Safety: message and table are slices, the others arrays; the last two are borrowed alone.
+    unsafe { ntske_decide_request(finding, message.as_ptr(), message.len(), table.as_mut_ptr(), table.len(), answer) }
 }
 
 #[inline]

@@ -23,7 +23,7 @@ pub enum Refused {
     TableFull,
     /// 8: a body to write is longer than 65,535 bytes.
     InvalidInput,
-    /// 9: the value is no record, plan, tray or connection.
+    /// 9: the value is no record, plan, tray, connection or finding.
     InvalidValue,
     /// 10: the output is too short.
     OutputTooShort,
@@ -94,7 +94,7 @@ impl Refused {
             Refused::IncorrectSizedKey => "a key half has the wrong length",
             Refused::TableFull => "more names or cookies than the table or the plan holds",
             Refused::InvalidInput => "a body to write is longer than 65,535 bytes",
-            Refused::InvalidValue => "the value is no record, plan, tray or connection",
+            Refused::InvalidValue => "the value is no record, plan, tray, connection or finding",
             Refused::OutputTooShort => "the output is too short",
             Refused::Error(_) => "the reply has an error record",
             Refused::UnknownWarning(_) => "the reply has a warning record",
@@ -123,7 +123,7 @@ impl Refused {
     }
 
     /// The refusal that a number tells, with what is beside it.
-    const fn told(number: u16, beside: u16) -> Self {
+    pub(crate) const fn told(number: u16, beside: u16) -> Self {
         match number {
             1 => Refused::UnexpectedEof,
             2 => Refused::InvalidData,

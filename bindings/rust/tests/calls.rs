@@ -53,11 +53,15 @@ fn hex(text: &str) -> Vec<u8> {
 
 const M: &str = "8001 0002 0000 8004 0002 000F 8000 0000";
 
-/// Reads a request; what is looked at is the table, and that of a refusal it is as it was.
-fn request(text: &str, limit: u16, room: usize, look: impl FnOnce(Result<Request, Refusal>), table: &[u16]) {
+/// Reads a request, and once more in two calls; what is looked at is the table, and that of a refusal it is as it was.
+fn request(text: &str, limit: u16, room: usize, look: impl Fn(Result<Request, Refusal>), table: &[u16]) {
     let message = hex(text);
+    let message = Message::new(&message);
     let mut lent = cells(room);
-    look(Message::new(&message).request(limit, lent.memory()));
+    look(message.request(limit, lent.memory()));
+    lent.holds(0, table);
+    let mut lent = cells(room);
+    look(message.decide_request(&message.walk_request(limit), lent.memory()));
     lent.holds(0, table);
 }
 
@@ -214,6 +218,182 @@ fn a_reply_is_read_or_refused() {
     reply_refused(M, 65535, 2, Refused::NoCookie, 12);
 }
 
+/// Requests and replies, accepted and refused.
+fn messages() -> Vec<Vec<u8>> {
+    let key = "5A".repeat(32);
+    let texts = [
+        M.to_string(),
+        format!("{M} FFFFFFFFFF"),
+        "8001 0002 0000 8004 0002 000F 000D 0002 C3A9 8000 0000".into(),
+        "8001 0002 0000 8004 0002 000F 000D 0003 612E62 000D 0001 63 8000 0000".into(),
+        format!("8001 0002 1234 8004 0002 000F 800C 0040 {key} {key} 000E 0002 4142 0008 0000 8000 0000"),
+        format!("8001 0002 1234 8004 0002 0010 800C 0040 {key} {key} 000E 0002 4142 0008 0000 8000 0000"),
+        "8009 0000 800A 0000 000E 0001 41 0008 0000 8000 0000".into(),
+        "8001 0002 0000 8004 0002 000F 0005 0004 DEADBEEF 0005 0000 8000 0000".into(),
+        "8001 0002 0000 8004 0002 0011 8006 0003 612E62 8007 0002 007B 0008 0000 0005 0001 AA 8000 0000 80".into(),
+        "0008 0000 8002 0002 FFFF 8000 0000".into(),
+        "8001 0000 8000 0000".into(),
+        "8006 0002 C3".into(),
+        "8007 0003 007B".into(),
+        "800B 0004 00000000".into(),
+        "7FFF 0001 AA 8001 0000 8001 0000".into(),
+        String::new(),
+    ];
+    texts.iter().map(|text| hex(text)).collect()
+}
+
+// ---- reading and deciding
+
+/// A finding in words, a line each.
+fn found(text: &str, limit: u16) -> Vec<String> {
+    Message::new(&hex(text)).walk_request(limit).to_string().lines().map(String::from).collect()
+}
+
+#[test]
+fn a_walk_tells_what_a_request_held() {
+    let m = ["1 end record", "1 next protocol record", "1 algorithm record", "ended at 12"];
+    assert_eq!(found(M, LIMIT), m);
+    assert_eq!(found(&format!("{M} 8007"), 16), m);
+    assert_eq!(found(M, 15), ["1 next protocol record", "1 algorithm record", "stopped at 12: bytes are missing (1)"]);
+    assert_eq!(found("", LIMIT), ["stopped at 0: bytes are missing (1)"]);
+    assert_eq!(found(M, 0), ["stopped at 0: bytes are missing (1)"]);
+    // a record that does not read does not count, and one that is refused does
+    assert_eq!(
+        found("0008 0000 8007 0003 007B", LIMIT),
+        ["1 keep-alive record", "stopped at 4: a body is ill-formed (2)"]
+    );
+    let unknown = "7FFF 0001 AA 000B 0000 800F 0000 8000 0000";
+    assert_eq!(
+        found(unknown, LIMIT),
+        ["3 unknown records", "stopped at 9: an unknown record has its critical bit set (3)"]
+    );
+    for (text, name) in [("8002 0002 0001", "error"), ("8003 0002 0001", "warning"), ("0005 0000", "cookie")] {
+        assert_eq!(
+            found(text, LIMIT),
+            [&format!("1 {name} record"), "stopped at 0: the set of records is not allowed (4)"]
+        );
+    }
+    let twice = ["2 next protocol records", "stopped at 4: the set of records is not allowed (4)"];
+    assert_eq!(found("8001 0000 8001 0000 8000 0000", LIMIT), twice);
+    // every kind that a request may hold; what is refused is decided behind the end
+    let all = "8001 0000 8004 0000 8006 0001 61 8007 0002 007B 0008 0000 8009 0000 800A 0000 000B 0000 800C 0000 \
+               000D 0001 62 000D 0000 000E 0000 8000 0001 FF";
+    let each = [
+        "1 end record",
+        "1 next protocol record",
+        "1 algorithm record",
+        "1 server record",
+        "1 port record",
+        "1 keep-alive record",
+        "1 supported protocols record",
+        "1 supported algorithms record",
+        "1 unknown record",
+        "1 fixed key record",
+        "2 denied server records",
+        "1 authentication record",
+        "ended at 52",
+    ];
+    assert_eq!(found(all, LIMIT), each);
+    request_refused(all, LIMIT, 4, Refused::Invalid, 52);
+}
+
+#[test]
+fn a_finding_is_taken_apart() {
+    let message = hex("000D 0002 6162 7FFF 0001 AA 000D 0000 800B 0000");
+    let finding = Message::new(&message).walk_request(4096);
+    assert_eq!((finding.limit(), finding.place()), (4096, 15));
+    assert_eq!(finding.reason(), Some(Refused::UnrecognizedCriticalRecord));
+    assert_eq!((finding.count(Kind::NtpServerDeny), finding.count(Kind::Unknown), finding.unknown()), (2, 2, 2));
+    assert_eq!(
+        (finding.first_body(Kind::NtpServerDeny), finding.first_body(Kind::Unknown)),
+        (Some(4..6), Some(10..11))
+    );
+    for kind in Kind::ALL.into_iter().filter(|kind| ![Kind::NtpServerDeny, Kind::Unknown].contains(kind)) {
+        assert_eq!((finding.count(kind), finding.first_body(kind)), (0, None));
+    }
+    assert_eq!(
+        format!("{finding:?}"),
+        "Finding { limit: 4096, place: 15, reason: Some(UnrecognizedCriticalRecord), \
+         found: {Unknown: (2, 10..11), NtpServerDeny: (2, 4..6)} }"
+    );
+    let ended = Message::new(&hex(M)).walk_request(LIMIT);
+    assert_eq!((ended.reason(), ended.first_body(Kind::EndOfMessage)), (None, Some(16..16)));
+    let (copy, other) = (finding, Message::new(&message).walk_request(4097));
+    assert_eq!((copy == finding, other == finding), (true, false));
+}
+
+#[test]
+fn a_kind_has_its_number_and_words() {
+    for (at, kind) in (0..).zip(Kind::ALL) {
+        assert_eq!((kind as u16, Kind::of(at)), (at, kind));
+        assert_eq!(Kind::ALL.iter().filter(|other| other.words() == kind.words()).count(), 1);
+    }
+    assert!((15..=u16::MAX).all(|number| Kind::of(number) == Kind::Unknown));
+
+    // the header's indices are the same
+    let table = HEADER.split_once("enum ntske_found_indices {").unwrap().1.split_once('}').unwrap().0;
+    let indices: Vec<_> = table.split(',').map(|entry| entry.split_whitespace().collect::<String>()).collect();
+    let ours = Kind::ALL.map(|kind| {
+        let name: String =
+            format!("{kind:?}").chars().flat_map(|c| c.is_uppercase().then_some('_').into_iter().chain([c])).collect();
+        format!("NTSKE_FOUND{}={}", name.to_uppercase(), kind as u16)
+    });
+    assert_eq!(indices, ours);
+    assert!(HEADER.contains(&format!("#define NTSKE_FOUND_KINDS {}\n", Kind::ALL.len())));
+}
+
+#[test]
+fn the_pair_answers_as_the_reader_and_refuses_any_other_finding() {
+    let messages = messages();
+    let limits = |message: &[u8]| [LIMIT, 64, message.len() as u16, (message.len() as u16).saturating_sub(1), 6, 0];
+    let findings: Vec<_> = messages
+        .iter()
+        .flat_map(|message| limits(message).map(|limit| Message::new(message).walk_request(limit)))
+        .collect();
+    let (mut same, mut other) = (0, 0);
+    for message in &messages {
+        for finding in &findings {
+            for room in [0, 2, 8] {
+                let mut table = cells(room);
+                let answer =
+                    Message::new(message).decide_request(finding, table.memory()).map(|read| format!("{read:?}"));
+                if Message::new(message).walk_request(finding.limit()) == *finding {
+                    same += 1;
+                    assert_eq!((answer, table.memory().to_vec()), whole(false, message, finding.limit(), room));
+                } else {
+                    other += 1;
+                    assert_eq!(answer, Err(Refusal { why: Refused::InvalidValue, place: 0 }));
+                    table.holds(0, &[]);
+                }
+            }
+        }
+    }
+    assert!(same >= 18 * messages.len() && other > same);
+}
+
+/// The lines of records that a listing shows are those that the finding counts.
+#[test]
+fn what_is_counted_is_what_is_listed() {
+    let mut out = vec![0; LISTING];
+    let listed = LISTINGS.split("\n<").skip(1).map(|block| hex(block.split_once('\n').unwrap().0));
+    for message in listed.chain(messages()) {
+        for limit in [LIMIT, 20, 6] {
+            let finding = Message::new(&message).walk_request(limit);
+            let listing = Message::new(&message).list(limit, 0, &mut out).unwrap();
+            let lines: Vec<_> = listing.lines().collect();
+            let mut counts = [0; 15];
+            for line in &lines[1..lines.len() - 1] {
+                let kind = line.split(' ').nth(1).and_then(|kind| kind.parse().ok()).expect("a kind");
+                counts[Kind::of(kind) as usize] += 1;
+            }
+            assert_eq!(Kind::ALL.map(|kind| finding.count(kind)), counts);
+            if let Some(why) = finding.reason() {
+                assert_eq!(lines[lines.len() - 1], format!("refused {} at {}", why.number(), finding.place()));
+            }
+        }
+    }
+}
+
 // ---- in pieces
 
 /// What a reader answers, as it is shown.
@@ -304,26 +484,7 @@ fn cut(message: &[u8]) -> Vec<Vec<&[u8]>> {
 
 #[test]
 fn however_a_message_is_cut_its_answer_is_the_whole_readers() {
-    let key = "5A".repeat(32);
-    let messages = [
-        M.to_string(),
-        format!("{M} FFFFFFFFFF"),
-        "8001 0002 0000 8004 0002 000F 000D 0002 C3A9 8000 0000".into(),
-        "8001 0002 0000 8004 0002 000F 000D 0003 612E62 000D 0001 63 8000 0000".into(),
-        format!("8001 0002 1234 8004 0002 000F 800C 0040 {key} {key} 000E 0002 4142 0008 0000 8000 0000"),
-        format!("8001 0002 1234 8004 0002 0010 800C 0040 {key} {key} 000E 0002 4142 0008 0000 8000 0000"),
-        "8009 0000 800A 0000 000E 0001 41 0008 0000 8000 0000".into(),
-        "8001 0002 0000 8004 0002 000F 0005 0004 DEADBEEF 0005 0000 8000 0000".into(),
-        "8001 0002 0000 8004 0002 0011 8006 0003 612E62 8007 0002 007B 0008 0000 0005 0001 AA 8000 0000 80".into(),
-        "0008 0000 8002 0002 FFFF 8000 0000".into(),
-        "8001 0000 8000 0000".into(),
-        "8006 0002 C3".into(),
-        "8007 0003 007B".into(),
-        "800B 0004 00000000".into(),
-        "7FFF 0001 AA 8001 0000 8001 0000".into(),
-        String::new(),
-    ];
-    for message in messages.iter().map(|text| hex(text)) {
+    for message in messages() {
         for is_reply in [false, true] {
             for limit in [LIMIT, 64, message.len() as u16, (message.len() as u16).saturating_sub(1), 6, 0] {
                 for room in [0, 2, 8] {

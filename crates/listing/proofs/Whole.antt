@@ -14,7 +14,8 @@ use Rattle.nts.specs.declared.NtsError.{NtsError}
 use Rattle.layout.specs.Write.{bytes, fitted, leftBy, Wrote}
 use Rattle.layout.specs.declared.ByteCount.{ByteCount}
 use Rattle.layout.specs.declared.ByteCount.the-variants as count
-use Rattle.request.specs.Request.{Told, toldAnswer, Judges}
+use Rattle.walk.proofs.Telling.{found-place}
+use Rattle.request.specs.Request.{reader, Told, toldAnswer, Judges}
 use Rattle.request.specs.declared.Judged.{Judged}
 use Rattle.listing.specs.Listing.{newline, heading, answerText, listing}
 use Rattle.listing.specs.Code.{PutMost, stopFrom, linesFrom}
@@ -24,7 +25,7 @@ use Rattle.listing.proofs.Texts.{made}
 abbrev lastLine : Told → List ℕ
 lastLine t = answerText t ++ (newline ∷ [])
 
--- s is the message m as it is cut after n bytes, and x what the reader answers for it and where the walk stopped
+-- s is the message m as it is cut after n bytes, and x what the reader answers for it and the finding
 module _ (m : List ℕ) (n room : ℕ) (s : List ℕ) (cut : s ≡ take n m) (x : Judged) (j : Judges m n room x) where
   abbrev lines : List ℕ
   lines = linesFrom s [] 0
@@ -32,8 +33,8 @@ module _ (m : List ℕ) (n room : ℕ) (s : List ℕ) (cut : s ≡ take n m) (x 
   abbrev last : List ℕ
   last = lastLine (toldAnswer (x .answer))
 
-  pub list-stop : x .place ≡ stopFrom s [] 0
-  list-stop = j .stopped ∙ ap (λ (t : List ℕ). stopFrom t [] 0) (sym cut)
+  pub list-stop : x .finding .place ≡ stopFrom s [] 0
+  list-stop = found-place reader m n (x .finding) (j .found) ∙ ap (λ (t : List ℕ). stopFrom t [] 0) (sym cut)
 
   parts : (heading ++ lines) ++ last ≡ listing m n room
   unfolding listing

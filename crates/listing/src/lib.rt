@@ -35,14 +35,14 @@ const LINE: usize = 65;
 const LAST_LINE: usize = 112;
 
 // The whole listing of a message read as if it were cut after `limit` bytes, and of what the request reader answers for it with room for so many
-// names: how many bytes that is, or 10 and nothing written where there is no room. The lines are of the records that the reader's walk met.
+// names: how many bytes that is, or 10 and nothing written where there is no room. The lines are of the records that the reader's finding counts.
 pub fn list(message: &[u8], limit: u16, room: usize, out: &mut [u8]) -> ByteCount
     ensures { λ r. ⌜ Wrote (fitted (length (now (out .entry))) (bytes (length (listing (now (message .entry)) limit room)))) (listing (now (message .entry)) limit room)
         (now (out .entry)) r (now (out .exit)) ⌝ }
 {
     let judged = Request::judge(message, limit, room);
     let answer = judged.answer;
-    let place = judged.place;
+    let place = judged.finding.place;
     let mut last = [0u8; LAST_LINE];
     let n = put_last(answer, &mut last);
     if out.len() < HEADING + n {

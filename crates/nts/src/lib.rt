@@ -87,7 +87,7 @@ pub enum NtsError {
     TableFull,
     // A body to write is longer than 65,535 bytes.
     InvalidInput,
-    // The value is no record, plan, tray or connection.
+    // The value is no record, plan, tray, connection or finding.
     InvalidValue,
     // The output is shorter than what is to be written.
     OutputTooShort,

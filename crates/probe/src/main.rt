@@ -2,6 +2,7 @@
 mod case;
 mod choosing;
 mod feeding;
+mod findings;
 mod lent;
 mod plans;
 mod records;
@@ -37,7 +38,7 @@ fn answer(
     let cells = table.len() / 2;
     match op {
         b'f' | b'F' => feeding::answer(op, case, dst, table, out, at),
-        b'q' | b'Q' | b'L' | b'y' | b'l' => {
+        b'q' | b'Q' | b'L' | b'V' | b'y' | b'l' => {
             whole::answer(op, case, &mut table[0..cells], out, at)
         }
         b'w' | b'W' | b'X' => writing::answer(op, case, dst, out, at),
@@ -65,6 +66,7 @@ fn read(op: u8, case: &[u8], out: &mut [u8], at: usize) -> usize {
         b'i' => records::part_of(case, out, at),
         b'j' => records::number_of(case, out, at),
         b'z' => writing::length_of(case, out, at),
+        b'v' => findings::walked(case, out, at),
         b'g' => choosing::of_lists(case, out, at),
         _ => text::bad_case(out, at),
     }

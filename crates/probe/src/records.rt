@@ -11,7 +11,7 @@ use record::ProtocolAt;
 use record::Reading;
 
 // A number behind a comma, but for the first.
-fn put_entry(out: &mut [u8], at: usize, index: usize, n: u16) -> usize {
+pub(super) fn put_entry(out: &mut [u8], at: usize, index: usize, n: u16) -> usize {
     if index == 0 {
         return text::put_decimal(out, at, n as u64);
     }

@@ -1,4 +1,4 @@
-// The answer to a request: ops q, Q, L and f.
+// The answer to a request: ops q, Q, L, f and V.
 use super::lent;
 use super::records;
 use super::text;
@@ -149,6 +149,17 @@ pub(super) fn put_answer(
     at: usize,
 ) -> usize {
     let answer = Request::parse(message, limit, table);
+    put_told(out, at, message, table, answer)
+}
+
+// What a call answered and left in that table.
+pub(super) fn put_told(
+    out: &mut [u8],
+    at: usize,
+    message: &[u8],
+    table: &[u16],
+    answer: Answer,
+) -> usize {
     match answer {
         Answer::Accepted(request) => {
             let to = put_request(out, at, message, table, request);

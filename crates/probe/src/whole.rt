@@ -1,5 +1,6 @@
-// The ops of whole messages: q, Q and L for a request, y and l for a reply. Each lends the table in the same way.
+// The ops of whole messages: q, Q and L for a request, V for one that is decided from a finding, y and l for a reply. Each lends the table in the same way.
 use super::case;
+use super::findings;
 use super::lent;
 use super::replies;
 use super::requests;
@@ -14,6 +15,7 @@ pub enum Sort {
 pub(super) fn answer(op: u8, case: &[u8], table: &mut [u16], out: &mut [u8], at: usize) -> usize {
     match op {
         b'L' | b'l' => limited(sort_of(op), case, table, out, at),
+        b'V' => findings::decided(case, table, out, at),
         b'Q' => under(Sort::Request, 65535, case, table, out, at),
         _ => under(sort_of(op), 4096, case, table, out, at),
     }

@@ -28,10 +28,11 @@ use Rattle.record.specs.declared.Looked.the-variants as looked
 use Rattle.walk.specs.Walk.{walk}
 use Rattle.walk.specs.Rules.{readerOf}
 use Rattle.walk.specs.Found.{wayBy}
+use Rattle.walk.specs.Finding.{Found, foundBy, toldFinding}
 use Rattle.walk.specs.declared.Stop.the-variants as stop
 use Rattle.places.specs.Places.{roomOf}
 use Rattle.places.specs.declared.Filled.the-variants as filled
-use Rattle.request.specs.Request.{request}
+use Rattle.request.specs.Request.{reader, request}
 use Rattle.request.specs.declared.Answer.the-variants as request-answer
 use Rattle.reply.specs.Reply.{replyOf}
 use Rattle.reply.specs.declared.Answer.the-variants as reply-answer
@@ -55,6 +56,8 @@ use Rattle.walk.proofs.walk.Reads as walk-walk
 use Rattle.places.proofs.fill.Reads as places-fill
 use Rattle.request.proofs.Request.parse.Reads as request-parse
 use Rattle.request.proofs.Request.judge.Reads as request-judge
+use Rattle.request.proofs.Request.walk.Reads as request-walk
+use Rattle.request.proofs.Request.decide.Reads as request-decide
 use Rattle.reply.proofs.KeyExchangeResponse.parse.Reads as reply-parse
 use Rattle.reply.proofs.KeyExchangeResponse.judge.Reads as reply-judge
 use Rattle.pieces.proofs.feed_request.Reads as pieces-feed-request
@@ -76,8 +79,8 @@ use Rattle.outgoing.proofs.write_request.Reads as outgoing-write-request
 use Rattle.outgoing.proofs.request_length.Reads as outgoing-request-length
 use Rattle.listing.proofs.list.Reads as listing-list
 use Rattle.cells.proofs.give_count.Reads as cells-give-count
-use Rattle.promises.specs.Numbers.{In, ofRead, ofSight, ofChoice, ofProtocol, recordNumbers, walkNumbers, requestNumbers, replyNumbers, feedRequestNumbers, feedReplyNumbers, expectedNumbers, orKept, fillNumbers, choiceNumbers, protocolNumbers, lengthNumbers, writerNumbers, appendNumbers, planNumbers, replyWriterNumbers, roomNumbers}
-use Rattle.promises.proofs.Exact.{record-exactly, look-exactly, walk-exactly, request-exactly, reply-exactly, fill-exactly, choose-exactly, choose-protocol-exactly, length-exactly, layout-length-exactly, serialize-exactly, layout-write-exactly, append-exactly, plan-length-exactly, deny-exactly, fixed-exactly, list-exactly, write-reply-exactly, support-length-exactly, write-support-exactly, request-length-exactly, write-request-exactly}
+use Rattle.promises.specs.Numbers.{In, ofRead, ofSight, ofChoice, ofProtocol, recordNumbers, walkNumbers, requestNumbers, stopNumbers, decideNumbers, replyNumbers, feedRequestNumbers, feedReplyNumbers, expectedNumbers, orKept, fillNumbers, choiceNumbers, protocolNumbers, lengthNumbers, writerNumbers, appendNumbers, planNumbers, replyWriterNumbers, roomNumbers}
+use Rattle.promises.proofs.Exact.{record-exactly, look-exactly, walk-exactly, request-exactly, stop-exactly, decide-exactly, reply-exactly, fill-exactly, choose-exactly, choose-protocol-exactly, length-exactly, layout-length-exactly, serialize-exactly, layout-write-exactly, append-exactly, plan-length-exactly, deny-exactly, fixed-exactly, list-exactly, write-reply-exactly, support-length-exactly, write-support-exactly, request-length-exactly, write-request-exactly}
 use Rattle.promises.proofs.Refusing.{count-refuses, wrote-refuses, append-refuses, deny-refuses, fill-refuses, walk-refuses, judge-refuses, request-refuses, reply-answer-refuses, reply-refuses}
 use Rattle.promises.proofs.RefusingFed.{feed-request-refuses, feed-reply-refuses, hands-over-refuses}
 
@@ -106,11 +109,12 @@ layout-length-refuses κs a r e p x h = count-refuses lengthNumbers (layout-leng
 
 -- ---- whole messages and their tables
 
--- by every table of rules. Its cells are its answer, which a refused walk fills as well (docs/DECISIONS.md)
+-- by every table of rules. The cells lent to it are its answer, which a walk that is refused fills as well (docs/DECISIONS.md)
 pub walk-walk-refuses : (κs : _) (a : _) (r : _) (e : _) → walk-walk.Learnt κs a r e → (x : NtsError) → r .stop ≡ stop.Refused x → In (numberOf x) walkNumbers
+unfolding foundBy
 walk-walk-refuses κs a r e p x h =
     walk-refuses walkNumbers (walk (readerOf (now (a .0))) [] 0 0 (take (a .1 .1 .0) (now (a .1 .0)))) (record { number = numberOf x; beside = besideOf x; place = r .place })
-    (walk-exactly .only (now (a .0), take (a .1 .1 .0) (now (a .1 .0)))) (sym (ap (wayBy (r .place)) h) ∙ p .says)
+    (walk-exactly .only (now (a .0), take (a .1 .1 .0) (now (a .1 .0)))) (sym (ap (wayBy (r .place)) h) ∙ ap (λ (f : Found). f .way) p)
 
 pub places-fill-refuses : (κs : _) (a : _) (r : _) (e : _) → places-fill.Learnt κs a r e → (y : Refusal) → r ≡ filled.Refused y → (now (e .1 .1 .1 .0) ≡ now (a .1 .1 .1 .0)) × In (numberOf (y .error)) fillNumbers
 places-fill-refuses κs a r e p y h =
@@ -119,6 +123,17 @@ places-fill-refuses κs a r e p y h =
 pub request-parse-refuses : (κs : _) (a : _) (r : _) (e : _) → request-parse.Learnt κs a r e → (y : Refusal) → r ≡ request-answer.Refused y → (now (e .1 .1 .0) ≡ now (a .1 .1 .0)) × In (numberOf (y .error)) requestNumbers
 request-parse-refuses κs a r e p y h =
     request-refuses requestNumbers (request-exactly .only (record { message = now (a .0); limit = a .1 .0; room = roomOf (now (a .1 .1 .0)) })) p y h
+
+-- the request's own walk
+pub request-walk-refuses : (κs : _) (a : _) (r : _) (e : _) → request-walk.Learnt κs a r e → (x : NtsError) → r .stop ≡ stop.Refused x → In (numberOf x) stopNumbers
+unfolding foundBy
+request-walk-refuses κs a r e p x h =
+    walk-refuses stopNumbers (walk reader [] 0 0 (take (a .1 .0) (now (a .0)))) (record { number = numberOf x; beside = besideOf x; place = r .place })
+    (stop-exactly .only (take (a .1 .0) (now (a .0)))) (sym (ap (wayBy (r .place)) h) ∙ ap (λ (f : Found). f .way) p)
+
+pub request-decide-refuses : (κs : _) (a : _) (r : _) (e : _) → request-decide.Learnt κs a r e → (y : Refusal) → r ≡ request-answer.Refused y → (now (e .1 .1 .0) ≡ now (a .1 .1 .0)) × In (numberOf (y .error)) decideNumbers
+request-decide-refuses κs a r e p y h =
+    request-refuses decideNumbers (decide-exactly .only (record { found = toldFinding (a .0); message = now (a .1 .0); room = roomOf (now (a .1 .1 .0)) })) p y h
 
 pub request-judge-refuses : (κs : _) (a : _) (r : _) (e : _) → request-judge.Learnt κs a r e → (y : Refusal) → r .answer ≡ request-answer.Refused y → In (numberOf (y .error)) requestNumbers
 request-judge-refuses κs a r e p y h =

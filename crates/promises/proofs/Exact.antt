@@ -1,7 +1,7 @@
 -- Demand 1, "A refusal bears its number from document 01": of each definition that a call between crates cites, the numbers that it refuses with. No other is
 -- answered, and each is, by an input of which it is computed or shown.
 -- Assumes nothing.
-use mathlib.Core.Path.{_≡_, refl}
+use mathlib.Core.Path.{_≡_, refl, ap, _∙_}
 use mathlib.Core.List.{List, [], _∷_}
 use mathlib.Core.Bool.{Bool, true, false, cond, _&&_, _||_}
 use Prim.Native.Nat.{ℕ, zero, suc, _+_, _*_, _%_, _<_, _≤_}
@@ -22,13 +22,17 @@ use Rattle.record.specs.declared.NtsRecord.{NtsRecord}
 use Rattle.record.specs.declared.NtsRecord.the-variants as item
 use Rattle.walk.specs.Walk.{faultIn, actIn, has, meet, judge, step, walk, Outcome, stopped, ended}
 use Rattle.walk.specs.Judge.{finish, readBy}
+use Rattle.walk.specs.Judge as refusing
+use Rattle.walk.specs.Found.{wayEnded}
+use Rattle.walk.specs.Finding.{foundBy, sameFound}
 use Rattle.walk.specs.Table.{known, actBy}
 use Rattle.walk.specs.Rules.{tellAct, ruleAct, actAt, onceAt, readerOf}
 use Rattle.walk.proofs.Numbered.{record-few, walk-numbered}
 use Rattle.places.specs.Places.{placesIn, tooMany, fillingOf, first}
 use Rattle.request.specs.Request as requests
 use Rattle.request.specs.Request.{request}
-use Rattle.request.proofs.Numbered.{request-numbered}
+use Rattle.request.proofs.Numbered.{stop-numbered, request-numbered}
+use Rattle.request.proofs.Deciding.{decided-by, decided-own}
 use Rattle.reply.specs.Reply as replies
 use Rattle.reply.specs.Reply.{replyOf}
 use Rattle.reply.proofs.Numbered.{reply-numbered}
@@ -40,8 +44,12 @@ use Rattle.plan.specs.declared.Plan.{Plan}
 use Rattle.messages.specs.Messages.{tooLong, replyChecked, supportLength, supportChecked, allUtf8, requestLength, requestChecked}
 use Rattle.messages.specs.declared.Asked.{Asked}
 use Rattle.listing.specs.Listing.{listing}
-use Rattle.promises.specs.Numbers.{In, none, bears, Exactly, ofCount, ofRead, ofSight, ofOutcome, ofAnswer, ofFilling, ofChoice, ofProtocol, ofAppended, recordNumbers, walkNumbers, requestNumbers, replyNumbers, fillNumbers, choiceNumbers, protocolNumbers, lengthNumbers, writerNumbers, appendNumbers, planNumbers, replyWriterNumbers, roomNumbers, Read, Filled, Offered, Cookie, Denied, Reply, Support, Request}
+use Rattle.promises.specs.Numbers.{In, All, none, bears, Exactly, ofCount, ofRead, ofSight, ofOutcome, ofAnswer, ofFilling, ofChoice, ofProtocol, ofAppended, recordNumbers, walkNumbers, requestNumbers, stopNumbers, decideNumbers, replyNumbers, fillNumbers, choiceNumbers, protocolNumbers, lengthNumbers, writerNumbers, appendNumbers, planNumbers, replyWriterNumbers, roomNumbers, Read, Decided, Filled, Offered, Cookie, Denied, Reply, Support, Request}
 use Rattle.promises.proofs.Bearing.{Within, only-of, if-within, answer-only, with-room, room-alone, alike, wider}
+
+all-map : {P Q : ℕ → Type 0} (l : List ℕ) → ((n : ℕ) → P n → Q n) → All P l → All Q l
+all-map [] f h = tt
+all-map (n ∷ l) f h = (f n (h .0), all-map l f (h .1))
 
 -- ---- bytes and messages for the examples
 
@@ -140,6 +148,17 @@ walk-exactly = record {
         only-of walkNumbers (bears (r .number)) (walk-numbered (λ n. In n walkNumbers) (refl, refl, refl, refl, refl, refl) rules s r e .one)
     go rules s (ended at next st) e = only-of walkNumbers none tt
 
+pub stop-exactly : Exactly (λ (s : List ℕ). ofOutcome (walk requests.reader [] 0 0 s)) stopNumbers
+unfolding numberAt kindOf criticalOf kind critical size there shapeOf rowOf isUnknown short uneven notNumber faultOf faultIn actIn has meet judge step walk known actBy requests.act requests.once
+stop-exactly = record {
+  only = λ s. go s (walk requests.reader [] 0 0 s) refl;
+  each = (([], refl), ((odd-error, refl), ((unknown-set, refl), ((128 ∷ 2 ∷ 0 ∷ 2 ∷ 0 ∷ 1 ∷ [], refl), tt))));
+}
+  where
+    go : (s : List ℕ) (o : Outcome) → walk requests.reader [] 0 0 s ≡ o → (n : ℕ) → ofOutcome o ≡ bears n → In n stopNumbers
+    go s (stopped r) e = only-of stopNumbers (bears (r .number)) (stop-numbered (λ n. In n stopNumbers) (refl, refl, refl, refl) s r e .one)
+    go s (ended at next st) e = only-of stopNumbers none tt
+
 pub request-exactly : Exactly (λ (x : Read). ofAnswer (request (x .message) (x .limit) (x .room))) requestNumbers
 unfolding numberAt wellFormed octets kindOf criticalOf kind critical size there shapeOf rowOf isUnknown short uneven notNumber notHalves notUtf8 firstOf notName faultOf faultIn actIn has meet judge step walk finish readBy known actBy requests.act requests.once requests.keyed requests.fixedBy requests.decide request describe
 request-exactly = record {
@@ -163,6 +182,23 @@ request-exactly = record {
         ),
       ),
     ),
+  );
+}
+
+-- a message, its own finding and the same room: so each number that the reader tells is told from a finding
+from-own : (x : Read) (n : ℕ) → ofAnswer (request (x .message) (x .limit) (x .room)) ≡ bears n → (y : Decided) × (ofAnswer (requests.decided (y .found) (y .message) (y .room)) ≡ bears n)
+from-own x n p = (record { found = foundBy requests.reader (x .message) (x .limit); message = x .message; room = x .room }, ap ofAnswer (decided-own (x .message) (x .limit) (x .room)) ∙ p)
+
+pub decide-exactly : Exactly (λ (x : Decided). ofAnswer (requests.decided (x .found) (x .message) (x .room))) decideNumbers
+unfolding requests.decided foundBy sameFound walk
+decide-exactly = record {
+  only = λ x. answer-only decideNumbers (requests.decided (x .found) (x .message) (x .room))
+      (decided-by (x .found) (x .message) (x .room) (λ a. (r : Refused) → a ≡ refusing.refused r → In (r .number) decideNumbers)
+      (λ r e. request-numbered (λ n. In n decideNumbers) (refl, refl, refl, refl, refl, refl, refl) (x .message) (x .found .limit) (x .room) r e .one)
+      (λ r e. let z : 9 ≡ r .number = cc in rw (← z)));
+  each = (
+    (record { found = record { limit = 0; cells = replicate 45 0; way = wayEnded 0 }; message = []; room = 0 }, refl),
+    all-map {P = λ (n : ℕ). (x : Read) × (ofAnswer (request (x .message) (x .limit) (x .room)) ≡ bears n)} requestNumbers (λ n p. from-own (p .0) n (p .1)) (request-exactly .each),
   );
 }
 

@@ -24,6 +24,7 @@ use Rattle.listing.specs.Listing.{listing}
 use Rattle.cells.specs.Cells.{Given, cells, cell}
 use Rattle.cells.proofs.Lent.{gives-granted, counted-granted, writes-granted}
 use Rattle.places.specs.Places.{roomOf}
+use Rattle.request.specs.Request.{toldBy, decided}
 use Rattle.pieces.specs.Pieces.{Brought, Read, nothingYet, says}
 use Rattle.pieces.specs.Reads.{requestRead, replyRead}
 use Rattle.reading.specs.Read.{requestGiven, replyGiven, recordGiven}
@@ -34,6 +35,8 @@ use Rattle.handing.specs.Handed.{choiceGiven, protocolGiven, keyGiven}
 use Rattle.planning.specs.Planned.{planIn, changed, grownGiven, appended, plannedLength, plannedReply, plannedBytes}
 use Rattle.writing.specs.Given.{recordIn, heldLength, heldBytes, askedOf, supportCount}
 use Rattle.reading.proofs.ntske_read_record.Reads as read-record
+use Rattle.deciding.specs.Given.{foundIn}
+use Rattle.deciding.proofs.ntske_decide_request.Reads as decide-request
 use Rattle.feeding.proofs.ntske_feed_request.Reads as feed-request
 use Rattle.feeding.proofs.ntske_close_request.Reads as close-request
 use Rattle.feeding.proofs.ntske_feed_reply.Reads as feed-reply
@@ -62,7 +65,7 @@ use Rattle.writing.proofs.ntske_write_record.Reads as write-record
 use Rattle.writing.proofs.ntske_record_length.Reads as record-length
 use Rattle.showing.proofs.ntske_list.Reads as list
 use Rattle.promises.proofs.Refusing.{sure-of}
-use Rattle.promises.proofs.Telling.{record-tells, choice-tells, protocol-tells, key-tells, change-tells, append-tells, plan-length-tells, write-reply-tells, fixed-tells, support-length-tells, write-support-tells, request-length-tells, write-request-tells, deny-tells, record-length-tells, write-record-tells, list-tells}
+use Rattle.promises.proofs.Telling.{record-tells, decide-tells, choice-tells, protocol-tells, key-tells, change-tells, append-tells, plan-length-tells, write-reply-tells, fixed-tells, support-length-tells, write-support-tells, request-length-tells, write-request-tells, deny-tells, record-length-tells, write-record-tells, list-tells}
 
 -- ---- what 0 says
 
@@ -103,6 +106,12 @@ choose-protocol-granted κs a r e p z = gives-granted p (sure-of (protocol-tells
 pub key-length-granted : (κs : _) (a : _) (r : _) (e : _) → key-length.Learnt κs a r e → r ≡ 0
     → Gave (keyGiven (a .0) (describe (a .0))) (now (e .1 .0))
 key-length-granted κs a r e p z = gives-granted p (sure-of (key-tells (a .0))) z
+
+-- ---- a decision from a finding
+
+pub decide-request-granted : (κs : _) (a : _) (r : _) (e : _) → decide-request.Learnt κs a r e → r ≡ 0
+    → Gave (requestGiven (toldBy (now (a .1 .0)) (decided (foundIn (now (a .0))) (now (a .1 .0)) (roomOf (now (a .1 .1 .0)))))) (now (e .1 .1 .1 .0))
+decide-request-granted κs a r e p z = gives-granted (p .gives) (sure-of (decide-tells (foundIn (now (a .0))) (now (a .1 .0)) (roomOf (now (a .1 .1 .0))))) z
 
 -- ---- a read that is fed in pieces
 

@@ -1,22 +1,25 @@
 -- Demand 1 for every call that a host links and that has memory lent to it for writing: "A refusal bears its number from document 01 and changes no lent table or
 -- buffer." Each call returns one word. The first theorems say what that word is of the readers of whole messages; those that follow say of each call, over its own
 -- contract, that a word which is not 0 leaves all that was lent as it was, and that its number, the word's remainder by 65,536, is one of the call's set
--- (specs/Numbers.antt). Six calls refuse nothing. Of the calls that feed a read in pieces a word that is neither 0 nor 65,535 refuses: neither it nor 65,535, which waits,
+-- (specs/Numbers.antt). Seven calls refuse nothing. Of the calls that feed a read in pieces a word that is neither 0 nor 65,535 refuses: neither it nor 65,535, which waits,
 -- changes the table or the answer's cells; connection and buffer may change (02, order 1), and what changes nothing of them is said, too. That each number of a set is told:
 -- Exact.antt, ExactFace.antt, and of a read in pieces, over the definition, ExactFed.antt. What a word that is 0 says: FaceGranted.antt.
 -- Assumes nothing.
-use mathlib.Core.Path.{_≡_, ap}
+use mathlib.Core.Path.{_≡_, ap, _∙_}
 use mathlib.Core.List.{List}
 use mathlib.Core.Bool.{true, false}
 use Prim.Native.Nat.{ℕ, _/_, _%_, _<_}
 use native.Mathlib.Omega.{arith}
 use lib.ListN.{length, getD}
 use denote.Ref.{now}
+use Rattle.wire.specs.Over.{over}
+use Rattle.wire.proofs.Over.{over-none}
 use Rattle.nts.specs.Refusal.{code, Refused}
 use Rattle.nts.specs.Algorithm.{Described, known, unknown, describe}
 use Rattle.walk.specs.Walk.{Sighting}
 use Rattle.walk.specs.Judge.{refused, accepted}
-use Rattle.places.specs.Places.{roomOf}
+use Rattle.walk.specs.Judge as judge
+use Rattle.places.specs.Places.{cells, roomOf}
 use Rattle.request.specs.Request as requests
 use Rattle.request.specs.Request.{request}
 use Rattle.reply.specs.Reply as replies
@@ -25,12 +28,15 @@ use Rattle.plan.specs.Plan as plans
 use Rattle.plan.specs.declared.Port.the-variants as ports
 use Rattle.plan.specs.declared.NameLength.the-variants as names
 use Rattle.cells.specs.Cells.{besideNumber, word, unplaced, refuses, cell}
-use Rattle.cells.proofs.Lent.{gives-refused, apart}
+use Rattle.cells.proofs.Lent.{gives-refused, gives-kept, apart}
 use Rattle.handing.specs.Handed.{keyGiven}
 use Rattle.reading.specs.Read.{ReadsRequest, ReadsReply}
 use Rattle.reading.proofs.ntske_read_request.Reads as read-request
 use Rattle.reading.proofs.ntske_read_reply.Reads as read-reply
 use Rattle.reading.proofs.ntske_read_record.Reads as read-record
+use Rattle.deciding.specs.Given.{foundIn}
+use Rattle.deciding.proofs.ntske_walk_request.Reads as walk-request
+use Rattle.deciding.proofs.ntske_decide_request.Reads as decide-request
 use Rattle.feeding.proofs.ntske_connection_new.Reads as connection-new
 use Rattle.feeding.proofs.ntske_feed_request.Reads as feed-request
 use Rattle.feeding.proofs.ntske_close_request.Reads as close-request
@@ -69,10 +75,10 @@ use Rattle.writing.proofs.ntske_append_denied.Reads as append-denied
 use Rattle.writing.proofs.ntske_write_record.Reads as write-record
 use Rattle.writing.proofs.ntske_record_length.Reads as record-length
 use Rattle.showing.proofs.ntske_list.Reads as list
-use Rattle.promises.specs.Numbers.{In, ofAnswer, recordNumbers, requestNumbers, replyNumbers, feedRequestNumbers, feedReplyNumbers, orHeld, choiceNumbers, protocolNumbers, keyNumbers, planNumbers, appendNumbers, lengthNumbers, writerNumbers, replyWriterNumbers, roomNumbers}
+use Rattle.promises.specs.Numbers.{In, ofAnswer, recordNumbers, requestNumbers, decideNumbers, replyNumbers, feedRequestNumbers, feedReplyNumbers, orHeld, choiceNumbers, protocolNumbers, keyNumbers, planNumbers, appendNumbers, lengthNumbers, writerNumbers, replyWriterNumbers, roomNumbers}
 use Rattle.promises.proofs.Exact.{request-exactly, reply-exactly}
 use Rattle.promises.proofs.Refusing.{number-of, given-refuses, writes-refuses}
-use Rattle.promises.proofs.Telling.{request-tells, reply-tells, record-tells, choice-tells, protocol-tells, key-tells, change-tells, append-tells, plan-length-tells, write-reply-tells, fixed-tells, support-length-tells, write-support-tells, request-length-tells, write-request-tells, deny-tells, record-length-tells, write-record-tells, list-tells}
+use Rattle.promises.proofs.Telling.{request-tells, decide-tells, request-given, reply-tells, record-tells, choice-tells, protocol-tells, key-tells, change-tells, append-tells, plan-length-tells, write-reply-tells, fixed-tells, support-length-tells, write-support-tells, request-length-tells, write-request-tells, deny-tells, record-length-tells, write-record-tells, list-tells}
 use Rattle.promises.proofs.Hosted.{granted, bears, told-apart, kept}
 use Rattle.promises.proofs.HostedRequest.{hosted-request}
 use Rattle.promises.proofs.HostedReply.{hosted-reply}
@@ -132,6 +138,21 @@ ntske-read-reply-refuses κs a r e p h = let k = kept hosted-reply p h in (k .0,
 
 pub ntske-read-record-refuses : (κs : _) (a : _) (r : _) (e : _) → read-record.Learnt κs a r e → (r ≡ 0 → ⊥) → (now (e .1 .1 .0) ≡ now (a .1 .1 .0)) × In (r % 65536) recordNumbers
 ntske-read-record-refuses κs a r e p h = given-refuses (record-tells (now (a .0)) (a .1 .0)) p h
+
+-- ---- of `deciding`: the table of names, and the answer's cells
+
+pub ntske-walk-request-refuses-nothing : (κs : _) (a : _) (r : _) (e : _) → walk-request.Learnt κs a r e → r ≡ 0
+ntske-walk-request-refuses-nothing κs a r e p = p .says
+
+pub ntske-decide-request-refuses : (κs : _) (a : _) (r : _) (e : _) → decide-request.Learnt κs a r e → (r ≡ 0 → ⊥) → (now (e .1 .1 .0) ≡ now (a .1 .1 .0)) × (now (e .1 .1 .1 .0) ≡ now (a .1 .1 .1 .0)) × In (r % 65536) decideNumbers
+unfolding requests.tableAfter
+ntske-decide-request-refuses κs a r e p h =
+    let y = gives-refused (p .gives) h in
+    let x = request-given (now (a .1 .0)) (requests.decided (foundIn (now (a .0))) (now (a .1 .0)) (roomOf (now (a .1 .1 .0)))) (y .0) (y .1) in (
+      p .left ∙ ap (λ (o : judge.Answer requests.Form). over (cells (requests.namesOf o)) (now (a .1 .1 .0))) x ∙ over-none (now (a .1 .1 .0)),
+      gives-kept (p .gives) h,
+      number-of (decide-tells (foundIn (now (a .0))) (now (a .1 .0)) (roomOf (now (a .1 .1 .0)))) (p .gives) h,
+    )
 
 -- ---- of `feeding`: the table of names or cookies, and the answer's cells
 

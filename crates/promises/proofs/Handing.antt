@@ -26,7 +26,7 @@ use Rattle.request.specs.Request.{Form, keyExchange, fixedKey, support, mapForm
 use Rattle.request.proofs.Order.{shows, reading, InsideForm, accepted-inside}
 use Rattle.promises.specs.Handed as hand
 use Rattle.promises.specs.Handed.{bytesAt, handedOut, inHand}
-use Rattle.promises.specs.Called.{request-parse}
+use Rattle.promises.specs.Called.{ParseRequest, answering, request-parse}
 use Rattle.promises.proofs.Steady.{Faithful}
 
 -- ---- the parts
@@ -128,15 +128,19 @@ module _ (m : List ℕ) (n : ℕ) (table : List ℕ) (r : Answer) (table′ : Li
       go (Accepted x) e h = let z : _≡_ {A = ℕ} 0 1 = told-not x y h in absurd (omega arith)
       go (answer.Refused x) e h = (x, e, cc, same)
 
--- ---- so every call answers as the definition does
+-- ---- so calls that each meet the reader's contract answer as the definition does
+
+pub reads-faithful : (C : Type 1) (m : C → List ℕ) (n : C → ℕ) (table : C → List ℕ) (r : C → Answer) (table′ : C → List ℕ) → ((c : C) → Reads (m c) (n c) (table c) (r c) (table′ c))
+    → Faithful reading shows (answering C m n table r table′) inHand
+reads-faithful C m n table r table′ met = record {
+  accepted-by = λ c s h.
+      let q = answered _ _ _ _ _ (met c) (h .0) (h .1) in
+      (q .0, q .1, sym (in-hand _ _ _ _ _ (met c) (h .0) (q .0) (h .1) (q .1)) ∙ h .2);
+  accepts = λ c q w.
+      let x = answers _ _ _ _ _ (met c) q w in
+      (x .0, x .1, in-hand _ _ _ _ _ (met c) (x .0) q (x .1) w);
+  refuses = λ c y w. refuses _ _ _ _ _ (met c) y w;
+}
 
 pub request-faithful : Faithful reading shows request-parse inHand
-request-faithful = record {
-  accepted-by = λ c s h.
-      let q = answered _ _ _ _ _ (c .met) (h .0) (h .1) in
-      (q .0, q .1, sym (in-hand _ _ _ _ _ (c .met) (h .0) (q .0) (h .1) (q .1)) ∙ h .2);
-  accepts = λ c q w.
-      let x = answers _ _ _ _ _ (c .met) q w in
-      (x .0, x .1, in-hand _ _ _ _ _ (c .met) (x .0) q (x .1) w);
-  refuses = λ c y w. refuses _ _ _ _ _ (c .met) y w;
-}
+request-faithful = reads-faithful ParseRequest _ _ _ _ _ (λ c. c .met)

@@ -27,7 +27,7 @@ use Rattle.promises.specs.Handed.{Shown, handedOut, inHand}
 use Rattle.promises.specs.Numbers.{Table}
 use Rattle.promises.specs.Cells.{requestInHand}
 use Rattle.promises.proofs.Handing.{in-hand}
-use Rattle.promises.specs.Called.{request-read}
+use Rattle.promises.specs.Called.{ReadRequest, answering-host, request-read}
 use Rattle.promises.proofs.Steady.{Faithful}
 use Rattle.promises.proofs.Hosted.{Hosted, granted}
 
@@ -91,12 +91,16 @@ hosted-request = record {
   numbered = request-numbered Table (omega arith);
 }
 
--- so every call answers as the definition does
-pub request-hosted : Faithful reading shows request-read inHand
-request-hosted = record {
+-- so calls that each meet the reader's contract answer as the definition does
+pub reads-hosted : (C : Type 1) (m : C → List ℕ) (n : C → ℕ) (table lent : C → List ℕ) (r : C → ℕ) (table′ after : C → List ℕ)
+    → ((c : C) → ReadsRequest (m c) (n c) (table c) (lent c) (r c) (table′ c) (after c)) → Faithful reading shows (answering-host C m n table lent r table′ after) inHand
+reads-hosted C m n table lent r table′ after met = record {
   accepted-by = λ c s h.
-      let q = granted hosted-request (c .met) (h .0) in
-      (q .0, q .1, sym (request-grants (c .met) (q .0) (q .1) .1) ∙ h .1);
-  accepts = λ c q w. request-grants (c .met) q w;
-  refuses = λ c y w. request-refuses (c .met) y w;
+      let q = granted hosted-request (met c) (h .0) in
+      (q .0, q .1, sym (request-grants (met c) (q .0) (q .1) .1) ∙ h .1);
+  accepts = λ c q w. request-grants (met c) q w;
+  refuses = λ c y w. request-refuses (met c) y w;
 }
+
+pub request-hosted : Faithful reading shows request-read inHand
+request-hosted = reads-hosted ReadRequest _ _ _ _ _ _ _ (λ c. c .met)

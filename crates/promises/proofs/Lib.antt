@@ -35,3 +35,6 @@ pub mod Pieces
 pub mod FedLines
 pub mod PiecesFace
 pub mod ExactFed
+pub mod Counting
+pub mod Findings
+pub mod FindingsFace

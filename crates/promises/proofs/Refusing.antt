@@ -24,6 +24,7 @@ use Rattle.places.specs.declared.Filled.the-variants as filled
 use Rattle.request.specs.Request as requests
 use Rattle.request.specs.declared.Answer as request-answers
 use Rattle.request.specs.declared.Answer.the-variants as request-answer
+use Rattle.request.proofs.Apart.{told-refused}
 use Rattle.reply.specs.Reply as replies
 use Rattle.reply.specs.declared.Answer as reply-answers
 use Rattle.reply.specs.declared.Answer.the-variants as reply-answer
@@ -88,26 +89,19 @@ module _ (l : List ℕ) where
   walk-refuses (stopped r) y only e = let z : r ≡ y = cc in only (y .number) (ap (λ (x : Refused). bears (x .number)) z)
   walk-refuses (ended at next st) y only e = let z : _≡_ {A = ℕ} 0 1 = cc in absurd (omega arith)
 
-  request-told : (m : List ℕ) (a : judge.Answer requests.Form) (y : Refused) → requests.toldBy m a ≡ requests.refusedWith y → a ≡ judge.refused y
-  request-told m (judge.refused r) y e = let z : r ≡ y = cc in ap judge.refused z
-  request-told m (judge.accepted (requests.keyExchange p a d)) y e = let z : _≡_ {A = ℕ} 0 1 = cc in absurd (omega arith)
-  request-told m (judge.accepted (requests.fixedKey u x a p k)) y e = let z : _≡_ {A = ℕ} 0 1 = cc in absurd (omega arith)
-  request-told m (judge.accepted (requests.support u p a k)) y e = let z : _≡_ {A = ℕ} 0 1 = cc in absurd (omega arith)
-
   -- the answer alone, as Request::judge gives it ..
   pub judge-refuses : (m : List ℕ) (a : judge.Answer requests.Form) {r : request-answers.Answer} → Only l (ofAnswer a) → requests.toldAnswer r ≡ requests.toldBy m a
       → (y : Refusal) → r ≡ request-answer.Refused y → (a ≡ judge.refused (toldRefusal y)) × In (numberOf (y .error)) l
   judge-refuses m a only p y h =
-      let e = request-told m a (toldRefusal y) (sym p ∙ ap requests.toldAnswer h) in
+      let e = told-refused m a (toldRefusal y) (sym p ∙ ap requests.toldAnswer h) in
       (e, only (numberOf (y .error)) (ap ofAnswer e))
 
   -- .. and with the table
-  pub request-refuses : {m : List ℕ} {n : ℕ} {table table′ : List ℕ} {r : request-answers.Answer}
-      → Only l (ofAnswer (requests.request m n (roomOf table))) → requests.Reads m n table r table′
+  pub request-refuses : {m : List ℕ} {a : judge.Answer requests.Form} {table table′ : List ℕ} {r : request-answers.Answer} → Only l (ofAnswer a) → requests.Answers m a table r table′
       → (y : Refusal) → r ≡ request-answer.Refused y → (table′ ≡ table) × In (numberOf (y .error)) l
   unfolding requests.tableAfter
-  request-refuses {m} {n} {table} only p y h =
-      let e = judge-refuses m (requests.request m n (roomOf table)) only (p .says) y h in
+  request-refuses {m} {a} {table} only p y h =
+      let e = judge-refuses m a only (p .says) y h in
       (p .left ∙ ap (λ (o : judge.Answer requests.Form). over (cells (requests.namesOf o)) table) (e .0) ∙ over-none table, e .1)
 
   reply-told : (m : List ℕ) (a : judge.Answer replies.Form) (y : Refused) → replies.toldBy m a ≡ replies.refusedWith y → a ≡ judge.refused y

@@ -1,15 +1,17 @@
 -- Of each call that a host links, what it gives bears no other number than those of its set: from the definitions (Exact.antt, ExactFace.antt) to words and cells.
 -- Assumes nothing.
-use mathlib.Core.Path.{_≡_, refl, sym, _∙_}
+use mathlib.Core.Path.{_≡_, refl, sym, ap, _∙_}
 use mathlib.Core.List.{List}
 use Prim.Native.Nat.{ℕ, _<_}
 use native.Mathlib.Omega.{arith}
 use lib.ListN.{length}
+use Rattle.nts.specs.Refusal.{Refused}
 use Rattle.nts.specs.Algorithm.{describe}
 use Rattle.layout.specs.Write.{Count, bytes, refused, fitted}
 use Rattle.record.specs.Record.{Told, read, readAt}
 use Rattle.record.specs.Record as rec
 use Rattle.walk.specs.Judge as judge
+use Rattle.walk.specs.Finding.{Found}
 use Rattle.request.specs.Request as requests
 use Rattle.request.specs.Request.{request}
 use Rattle.reply.specs.Reply as replies
@@ -20,14 +22,14 @@ use Rattle.plan.specs.Plan as plan
 use Rattle.plan.specs.declared.Plan.{Plan}
 use Rattle.messages.specs.Messages.{requestChecked}
 use Rattle.listing.specs.Listing.{listing}
-use Rattle.cells.specs.Cells.{Given, counted}
+use Rattle.cells.specs.Cells.{Given, refuses, counted}
 use Rattle.reading.specs.Read.{requestGiven, replyGiven, recordGiven}
 use Rattle.handing.specs.Handed.{choiceGiven, protocolGiven, keyGiven}
 use Rattle.planning.specs.Planned.{planIn, changed, grownGiven, appended, plannedLength, plannedReply}
 use Rattle.writing.specs.Given.{recordIn, heldLength, supportCount}
-use Rattle.promises.specs.Numbers.{Table, All, Number, ofCount, ofRead, ofAnswer, ofChoice, ofProtocol, ofAppended, ofGiven, recordNumbers, requestNumbers, replyNumbers, choiceNumbers, protocolNumbers, keyNumbers, planNumbers, appendNumbers, lengthNumbers, writerNumbers, replyWriterNumbers, roomNumbers}
+use Rattle.promises.specs.Numbers.{Table, All, Number, ofCount, ofRead, ofAnswer, ofChoice, ofProtocol, ofAppended, ofGiven, recordNumbers, requestNumbers, decideNumbers, replyNumbers, choiceNumbers, protocolNumbers, keyNumbers, planNumbers, appendNumbers, lengthNumbers, writerNumbers, replyWriterNumbers, roomNumbers}
 use Rattle.promises.proofs.Bearing.{Only}
-use Rattle.promises.proofs.Exact.{record-exactly, request-exactly, reply-exactly, choose-exactly, choose-protocol-exactly, deny-exactly, fixed-exactly, list-exactly, request-length-exactly, write-request-exactly}
+use Rattle.promises.proofs.Exact.{record-exactly, request-exactly, decide-exactly, reply-exactly, choose-exactly, choose-protocol-exactly, deny-exactly, fixed-exactly, list-exactly, request-length-exactly, write-request-exactly}
 use Rattle.promises.proofs.ExactFace.{key-exactly, change-exactly, cells-append-exactly, cells-length-exactly, cells-reply-exactly, support-count-exactly, support-written-exactly, held-length-exactly, held-written-exactly}
 use Rattle.promises.proofs.Refusing.{Tells}
 
@@ -70,6 +72,16 @@ of-appended (plan.refusedWith k b) = refl
 
 pub request-tells : (m : List ℕ) (n room : ℕ) → Tells requestNumbers (requestGiven (requests.toldBy m (request m n room)))
 request-tells m n room = tells (omega arith) (of-request m (request m n room)) (request-exactly .only (record { message = m; limit = n; room = room }))
+
+pub decide-tells : (f : Found) (m : List ℕ) (room : ℕ) → Tells decideNumbers (requestGiven (requests.toldBy m (requests.decided f m room)))
+decide-tells f m room = tells (omega arith) (of-request m (requests.decided f m room)) (decide-exactly .only (record { found = f; message = m; room = room }))
+
+-- where the cells of a request tell a refusal, it is what is answered
+pub request-given : (m : List ℕ) (a : judge.Answer requests.Form) (y : Refused) → requestGiven (requests.toldBy m a) ≡ refuses y → a ≡ judge.refused y
+request-given m (judge.refused r) y e = let z : r ≡ y = cc in ap judge.refused z
+request-given m (judge.accepted (requests.keyExchange p a d)) y e = let z : _≡_ {A = ℕ} 0 1 = cc in absurd (omega arith)
+request-given m (judge.accepted (requests.fixedKey u x a p k)) y e = let z : _≡_ {A = ℕ} 0 1 = cc in absurd (omega arith)
+request-given m (judge.accepted (requests.support u p a k)) y e = let z : _≡_ {A = ℕ} 0 1 = cc in absurd (omega arith)
 
 pub reply-tells : (m : List ℕ) (n room : ℕ) → Tells replyNumbers (replyGiven (replies.toldBy m (replyOf m n room)))
 reply-tells m n room = tells (omega arith) (of-reply m (replyOf m n room)) (reply-exactly .only (record { message = m; limit = n; room = room }))

@@ -55,16 +55,20 @@ pub record ParseReply : Type 1 where
   pub e : _
   pub met : parse-reply.Learnt κs a answer e
 
--- it answered a request, and what is in hand of it and of the table is s; or a refusal, and no cell of the table changed
-abbrev pub request-parse : Reader requests.Shown
-request-parse = record {
-  Call = ParseRequest;
-  asked = λ c. now (c .a .0);
-  under = λ c. asked (c .a .1 .0) (now (c .a .1 .1 .0));
-  Holds = λ c n. Unit {0};
-  Accepts = λ c s. (x : Request) × (c .answer ≡ request.Accepted x) × (requests.handedOut (now (c .a .0)) (now (c .e .1 .1 .0)) x ≡ s);
-  Refuses = λ c y. (x : Refusal) × (c .answer ≡ request.Refused x) × (toldRefusal x ≡ y) × (now (c .e .1 .1 .0) ≡ now (c .a .1 .1 .0));
+-- a reader of requests over its calls, each with a message, a limit, a table, an answer and the table afterwards: it answered a request, and what is in hand of it and of
+-- the table is s; or a refusal, and no cell of the table changed
+abbrev pub answering : (C : Type 1) → (C → List ℕ) → (C → ℕ) → (C → List ℕ) → (C → request-answer.Answer) → (C → List ℕ) → Reader requests.Shown
+answering C m n table answer table′ = record {
+  Call = C;
+  asked = m;
+  under = λ c. asked (n c) (table c);
+  Holds = λ c k. Unit {0};
+  Accepts = λ c s. (x : Request) × (answer c ≡ request.Accepted x) × (requests.handedOut (m c) (table′ c) x ≡ s);
+  Refuses = λ c y. (x : Refusal) × (answer c ≡ request.Refused x) × (toldRefusal x ≡ y) × (table′ c ≡ table c);
 }
+
+abbrev pub request-parse : Reader requests.Shown
+request-parse = answering ParseRequest (λ c. now (c .a .0)) (λ c. c .a .1 .0) (λ c. now (c .a .1 .1 .0)) (λ c. c .answer) (λ c. now (c .e .1 .1 .0))
 
 abbrev pub reply-parse : Reader replies.Shown
 reply-parse = record {
@@ -92,16 +96,23 @@ pub record ReadReply : Type 1 where
   pub e : _
   pub met : read-reply.Learnt κs a answer e
 
--- it returned 0, and what is in hand by the table and the cells is s; or the word of a refusal, and neither changed
-abbrev pub request-read : Reader requests.Shown
-request-read = record {
-  Call = ReadRequest;
-  asked = λ c. now (c .a .0);
-  under = λ c. asked (c .a .1 .0) (now (c .a .1 .1 .0));
-  Holds = λ c n. Unit {0};
-  Accepts = λ c s. (c .answer ≡ 0) × (requestInHand (now (c .a .0)) (now (c .e .1 .1 .0)) (now (c .e .1 .1 .1 .0)) ≡ s);
-  Refuses = λ c y. (c .answer ≡ word y) × (now (c .e .1 .1 .0) ≡ now (c .a .1 .1 .0)) × (now (c .e .1 .1 .1 .0) ≡ now (c .a .1 .1 .1 .0));
+-- a reader of requests over its calls, each with a message, a limit, a table, cells, a word, and table and cells afterwards: it returned 0, and what is in hand by the table and
+-- the cells is s; or the word of a refusal, and neither changed
+abbrev pub answering-host : (C : Type 1) → (C → List ℕ) → (C → ℕ) → (C → List ℕ) → (C → List ℕ) → (C → ℕ) → (C → List ℕ) → (C → List ℕ) → Reader requests.Shown
+answering-host C m n table lent answer table′ after = record {
+  Call = C;
+  asked = m;
+  under = λ c. asked (n c) (table c);
+  Holds = λ c k. Unit {0};
+  Accepts = λ c s. (answer c ≡ 0) × (requestInHand (m c) (table′ c) (after c) ≡ s);
+  Refuses = λ c y. (answer c ≡ word y) × (table′ c ≡ table c) × (after c ≡ lent c);
 }
+
+abbrev pub request-read : Reader requests.Shown
+request-read =
+    answering-host ReadRequest (λ c. now (c .a .0)) (λ c. c .a .1 .0) (λ c. now (c .a .1 .1 .0)) (λ c. now (c .a .1 .1 .1 .0)) (λ c. c .answer) (λ c. now (c .e .1 .1 .0)) (λ c. now (c .e .1 .1 .1 .0))
+
+-- .. and of replies
 
 abbrev pub reply-read : Reader replies.Shown
 reply-read = record {

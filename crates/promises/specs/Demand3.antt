@@ -1,6 +1,6 @@
 -- Demand 3, of any reader of messages, with its sentences. It is one statement, `Demand3`; proofs/Demand3.antt proves it of the definitions of a request
 -- and of a reply, of the two readers by their own contracts, and of the two calls that a host links; proofs/Pieces.antt and PiecesFace.antt of the bytes that a line
--- delivered, joined.
+-- delivered, joined; proofs/Findings.antt and FindingsFace.antt of a walk and a decision from its finding.
 use Prim.Native.Nat.{ℕ, _+_, _≤_}
 use mathlib.Core.Path.{_≡_}
 use mathlib.Core.List.{List, _∷_, _++_, List·Permᴰ}

@@ -8,3 +8,5 @@ pub mod Numbers
 pub mod Pieces
 pub mod Fed
 pub mod FedCells
+pub mod Findings
+pub mod FindingsFace

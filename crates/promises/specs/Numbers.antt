@@ -9,6 +9,7 @@ use Rattle.layout.specs.Write as write
 use Rattle.record.specs.Record as rec
 use Rattle.walk.specs.Walk as walk
 use Rattle.walk.specs.Judge as judge
+use Rattle.walk.specs.Finding.{Found}
 use Rattle.places.specs.Places as places
 use Rattle.negotiation.specs.Negotiation as choice
 use Rattle.negotiation.specs.Negotiation.{holds}
@@ -114,6 +115,14 @@ walkNumbers = 1 ∷ 2 ∷ 3 ∷ 4 ∷ 11 ∷ 12 ∷ []
 abbrev pub requestNumbers : List ℕ
 requestNumbers = 1 ∷ 2 ∷ 3 ∷ 4 ∷ 5 ∷ 6 ∷ 7 ∷ []
 
+-- its walk alone: "in record order"; 02, order 2: why it stopped
+abbrev pub stopNumbers : List ℕ
+stopNumbers = 1 ∷ 2 ∷ 3 ∷ 4 ∷ []
+
+-- 02, order 2: "9 from the second call, before all others", and the reader's
+abbrev pub decideNumbers : List ℕ
+decideNumbers = 9 ∷ 1 ∷ 2 ∷ 3 ∷ 4 ∷ 5 ∷ 6 ∷ 7 ∷ []
+
 -- "The reply reader goes in record order"
 abbrev pub replyNumbers : List ℕ
 replyNumbers = 1 ∷ 2 ∷ 3 ∷ 4 ∷ 7 ∷ 11 ∷ 12 ∷ 13 ∷ 14 ∷ 15 ∷ []
@@ -185,6 +194,12 @@ keyNumbers = 5 ∷ []
 pub record Read : Type 0 where
   pub message : List ℕ
   pub limit : ℕ
+  pub room : ℕ
+
+-- of a decision from a finding
+pub record Decided : Type 0 where
+  pub found : Found
+  pub message : List ℕ
   pub room : ℕ
 
 -- a read that is fed in pieces and has no answer yet: its connection, the buffer, what is brought, and the room of the table

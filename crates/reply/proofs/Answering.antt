@@ -11,12 +11,14 @@ use Rattle.walk.specs.Judge as judge
 use Rattle.walk.specs.Judge.{Under, ofKind, bodyIn, placed}
 use Rattle.walk.specs.Table.{known}
 use Rattle.walk.specs.Rules.{isNoted}
-use Rattle.walk.specs.Found.{toldIn, Walks}
+use Rattle.walk.specs.Found.{toldIn}
+use Rattle.walk.specs.Finding.{foundBy, toldFinding}
 use Rattle.walk.specs.Code.{Fits}
 use Rattle.walk.specs.declared.Stop.the-variants as stop
-use Rattle.walk.specs.declared.Walked.{Walked}
+use Rattle.walk.specs.declared.Finding.{Finding}
 use Rattle.walk.proofs.Noted.{kind-inside}
-use Rattle.walk.proofs.Answered.{walk-place, read-refused, ended-fits, told-ended}
+use Rattle.walk.proofs.Telling.{found-place}
+use Rattle.walk.proofs.Answered.{read-refused, ended-fits, told-ended}
 use Rattle.places.specs.Places.{roomOf, Fills}
 use Rattle.places.specs.declared.Filled.{Filled}
 use Rattle.places.proofs.Walked.{table-notes}
@@ -30,29 +32,29 @@ use Rattle.reply.proofs.Reader.{table-reader}
 use Rattle.reply.proofs.Decided.{decided-like}
 use Rattle.reply.proofs.Order.{decide-held}
 
-module _ (m : List ℕ) (n room : ℕ) (w : Walked) (c : List ℕ) (h : Walks rules (take n m) w c) where
+module _ (m : List ℕ) (n room : ℕ) (f : Finding) (h : toldFinding f ≡ foundBy reader m n) where
   abbrev u : Under
   u = record { limit = n; room = room }
 
-  pub judged-refused : (e : NtsError) → w .stop ≡ stop.Refused e → (x : Answer) → x ≡ answer.Refused (record { error = e; place = w .place }) → Judges m n room (record { answer = x; place = w .place })
+  pub judged-refused : (e : NtsError) → f .stop ≡ stop.Refused e → (x : Answer) → x ≡ answer.Refused (record { error = e; place = f .place }) → Judges m n room (record { answer = x; place = f .place })
   unfolding replyOf
   judged-refused e q x a = record {
-    says = ap toldAnswer a ∙ ap (toldBy m) (sym (read-refused rules reader table-reader m u w c h judging e q));
-    stopped = walk-place rules reader table-reader m u w c h;
+    says = ap toldAnswer a ∙ ap (toldBy m) (sym (read-refused rules reader table-reader m u f h judging e q));
+    stopped = found-place reader m n f h;
   }
 
-  pub judged-fits : w .stop ≡ stop.End → Fits rules (length m) c
-  judged-fits = ended-fits rules reader table-reader m u w c h
+  pub judged-fits : f .stop ≡ stop.End → Fits rules (length m) (f .cells)
+  judged-fits = ended-fits rules reader table-reader m u f h
 
-  pub judged-ended : w .stop ≡ stop.End → (x : Answer) → toldAnswer x ≡ toldBy m (placed (w .place) (decide room (bodyIn m) (toldIn c))) → Judges m n room (record { answer = x; place = w .place })
+  pub judged-ended : f .stop ≡ stop.End → (x : Answer) → toldAnswer x ≡ toldBy m (placed (f .place) (decide room (bodyIn m) (toldIn (f .cells)))) → Judges m n room (record { answer = x; place = f .place })
   unfolding replyOf known isUnknown shapeOf rowOf isNoted
   judged-ended q x a = record {
     says =
         a
-        ∙ told-ended rules reader table-reader m u w c h judging (toldBy m)
-        (λ l l′ like. decided-like m (w .place) room l l′ (like 1 (omega arith) refl refl) (like 4 (omega arith) refl refl) (like 5 (omega arith) refl refl)
+        ∙ told-ended rules reader table-reader m u f h judging (toldBy m)
+        (λ l l′ like. decided-like m (f .place) room l l′ (like 1 (omega arith) refl refl) (like 4 (omega arith) refl refl) (like 5 (omega arith) refl refl)
         (like 6 (omega arith) refl refl) (like 7 (omega arith) refl refl) (like 8 (omega arith) refl refl)) q;
-    stopped = walk-place rules reader table-reader m u w c h;
+    stopped = found-place reader m n f h;
   }
 
 -- ---- the table

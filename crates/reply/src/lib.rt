@@ -16,12 +16,13 @@ use walk::Stop;
 use walk::TOLD;
 use walk::Walked;
 ghost use mathlib.Core.Path.{_≡_};
-ghost use lib.ListN.{length, take};
+ghost use lib.ListN.{length};
 ghost use Rattle.walk.specs.Judge.{bodyIn, placed};
-ghost use Rattle.walk.specs.Found.{toldIn, Walks};
+ghost use Rattle.walk.specs.Found.{toldIn};
+ghost use Rattle.walk.specs.Finding.{foundBy, asFinding, toldFinding};
 ghost use Rattle.walk.specs.Code.{Fits};
 ghost use Rattle.reply.specs.Reply as reply;
-ghost use Rattle.reply.specs.Reply.{rules, toldServer, toldPort, toldBy, toldAnswer, Judges, Reads};
+ghost use Rattle.reply.specs.Reply.{rules, reader, toldServer, toldPort, toldBy, toldAnswer, Judges, Reads};
 ghost use Rattle.reply.specs.Code.{numberIn, sentIn, acceptedIn, cookiesIn};
 
 // The server's name, where one was sent: a part of the message.
@@ -98,7 +99,7 @@ impl KeyExchangeResponse {
         ensures { λ r. ⌜ Judges (now (message .entry)) limit room r ⌝ }
     {
         let mut cells = [0u16; 45];
-        let walked = walk_all(message, limit, &mut cells);
+        let walked = walk_into(message, limit, &mut cells);
         let place = walked.place;
         let stop = walked.stop;
         match stop {
@@ -114,9 +115,9 @@ impl KeyExchangeResponse {
     }
 }
 
-// The walk by this reader's table.
-fn walk_all(message: &[u8], limit: u16, cells: &mut [u16; 45]) -> Walked
-    ensures { λ r. ⌜ Walks rules (take limit (now (message .entry))) r (now (cells .exit)) ⌝ }
+// The walk by this reader's table, with what it found in the cells.
+fn walk_into(message: &[u8], limit: u16, cells: &mut [u16; 45]) -> Walked
+    ensures { λ r. ⌜ toldFinding (asFinding r (now (cells .exit))) ≡ foundBy reader (now (message .entry)) limit ⌝ }
 {
     let rules = RULES;
     walk::walk(&rules, message, limit, cells)

@@ -1,54 +1,65 @@
--- A whole request: the walk, the decision and the table, put together.
+-- A whole request: the finding, the decision from it and the table, put together; and the second call's test.
 -- Assumes nothing.
-use mathlib.Core.Path.{_≡_, refl, sym, ap, _∙_}
-use mathlib.Core.List.{List}
+use mathlib.Core.Path.{_≡_, refl, sym, ap, subst, _∙_}
+use mathlib.Core.List.{List, []}
+use mathlib.Core.Bool.{Bool, true, false}
 use Prim.Native.Nat.{ℕ, _-_, _<_, _≤_}
 use native.Mathlib.Omega.{arith}
 use lib.ListN.{length, take, drop}
 use Rattle.nts.specs.declared.NtsError.{NtsError}
 use Rattle.layout.specs.Table.{rowOf, shapeOf, isUnknown}
+use Rattle.walk.specs.Walk.{walk}
 use Rattle.walk.specs.Judge as judge
 use Rattle.walk.specs.Judge.{Under, ofKind, bodyIn, placed}
 use Rattle.walk.specs.Table.{known}
-use Rattle.walk.specs.Found.{toldIn, Walks}
+use Rattle.walk.specs.Found.{toldIn, placeOf}
+use Rattle.walk.specs.Finding.{Found, foundBy, sameFound, toldFinding}
 use Rattle.walk.specs.Code.{Fits}
 use Rattle.walk.specs.declared.Stop.the-variants as stop
-use Rattle.walk.specs.declared.Walked.{Walked}
+use Rattle.walk.specs.declared.Finding.{Finding}
 use Rattle.walk.proofs.Noted.{kind-inside}
-use Rattle.walk.proofs.Answered.{walk-place, read-refused, ended-fits, told-ended}
+use Rattle.walk.proofs.Telling.{found-limit, found-place}
+use Rattle.walk.proofs.Answered.{read-refused, ended-fits, told-ended}
 use Rattle.places.specs.Places.{roomOf, Fills}
 use Rattle.places.specs.declared.Filled.{Filled}
 use Rattle.places.proofs.Walked.{table-notes}
 use Rattle.places.proofs.Stored.{stop-inside, none-stored, all-stored}
-use Rattle.request.specs.Request.{rules, act, once, reader, Form, keyExchange, fixedKey, support, decide, judging, request, toldBy, toldAnswer, namesOf, tableAfter, Judges, Reads}
+use Rattle.request.specs.Request.{rules, act, once, reader, Form, keyExchange, fixedKey, support, decide, judging, request, toldBy, toldAnswer, namesOf, tableAfter, decided, Reads, Decides}
 use Rattle.request.specs.Code.{deniedIn}
-use Rattle.request.specs.declared.Judged.{Judged}
 use Rattle.request.specs.declared.Answer.{Answer}
 use Rattle.request.specs.declared.Answer.the-variants as answer
 use Rattle.request.proofs.Reader.{table-reader}
 use Rattle.request.proofs.Decided.{decided-like}
 use Rattle.request.proofs.Order.{decide-held}
 
-module _ (m : List ℕ) (n room : ℕ) (w : Walked) (c : List ℕ) (h : Walks rules (take n m) w c) where
-  abbrev u : Under
-  u = record { limit = n; room = room }
+-- ---- the decision from the walk's own finding
 
-  pub judged-refused : (e : NtsError) → w .stop ≡ stop.Refused e → (x : Answer) → x ≡ answer.Refused (record { error = e; place = w .place }) → Judges m n room (record { answer = x; place = w .place })
-  unfolding request
-  judged-refused e q x a = record {
-    says = ap toldAnswer a ∙ ap (toldBy m) (sym (read-refused rules reader table-reader m u w c h judging e q));
-    stopped = walk-place rules reader table-reader m u w c h;
-  }
+module _ (m : List ℕ) (f : Finding) (h : toldFinding f ≡ foundBy reader m (f .limit)) where
+  abbrev n : ℕ
+  n = f .limit
 
-  pub judged-fits : w .stop ≡ stop.End → Fits rules (length m) c
-  judged-fits = ended-fits rules reader table-reader m u w c h
+  -- its place is that of the record that stopped the walk
+  pub place-is : f .place ≡ placeOf (walk reader [] 0 0 (take n m))
+  place-is = found-place reader m n f h
 
-  pub judged-ended : w .stop ≡ stop.End → (x : Answer) → toldAnswer x ≡ toldBy m (placed (w .place) (decide room (bodyIn m) (toldIn c))) → Judges m n room (record { answer = x; place = w .place })
-  unfolding request
-  judged-ended q x a = record {
-    says = a ∙ told-ended rules reader table-reader m u w c h judging (toldBy m) (decided-like m (w .place) room) q;
-    stopped = walk-place rules reader table-reader m u w c h;
-  }
+  -- which lies inside the message
+  pub place-inside : f .place ≤ length m
+  place-inside = stop-inside reader m n (f .place) place-is
+
+  pub ended-fit : f .stop ≡ stop.End → Fits rules (length m) (f .cells)
+  ended-fit = ended-fits rules reader table-reader m (record { limit = n; room = 0 }) f h
+
+  module _ (room : ℕ) where
+    abbrev u : Under
+    u = record { limit = n; room = room }
+
+    pub decided-refused : (e : NtsError) → f .stop ≡ stop.Refused e → (x : Answer) → x ≡ answer.Refused (record { error = e; place = f .place }) → toldAnswer x ≡ toldBy m (request m n room)
+    unfolding request
+    decided-refused e q x a = ap toldAnswer a ∙ ap (toldBy m) (sym (read-refused rules reader table-reader m u f h judging e q))
+
+    pub decided-ended : f .stop ≡ stop.End → (x : Answer) → toldAnswer x ≡ toldBy m (placed (f .place) (decide room (bodyIn m) (toldIn (f .cells)))) → toldAnswer x ≡ toldBy m (request m n room)
+    unfolding request
+    decided-ended q x a = a ∙ told-ended rules reader table-reader m u f h judging (toldBy m) (decided-like m (f .place) room) q
 
 -- ---- the table
 
@@ -61,29 +72,41 @@ denied-are m (judge.accepted (support u p a k)) = refl
 
 -- ---- what the reader answers, and the table it leaves
 
-module _ (m : List ℕ) (n : ℕ) (t : List ℕ) (x : Judged) (j : Judges m n (roomOf t) x) where
-  -- the walk stops inside the message
-  pub place-inside : x .place ≤ length m
-  place-inside = stop-inside reader m n (x .place) (j .stopped)
-
+module _ (m : List ℕ) (n : ℕ) (t : List ℕ) (x : Answer) (says : toldAnswer x ≡ toldBy m (request m n (roomOf t))) where
   -- count is how many names the answer denies
-  module _ (count : ℕ) (told : count ≡ deniedIn (toldAnswer (x .answer))) where
+  module _ (count : ℕ) (told : count ≡ deniedIn (toldAnswer x)) where
     counted : count ≡ length (namesOf (request m n (roomOf t)))
-    counted = told ∙ ap deniedIn (j .says) ∙ denied-are m (request m n (roomOf t))
+    counted = told ∙ ap deniedIn says ∙ denied-are m (request m n (roomOf t))
 
-    pub reads-none : count ≡ 0 → Reads m n t (x .answer) t
+    pub reads-none : count ≡ 0 → Reads m n t x t
     unfolding tableAfter
-    reads-none e = record { says = j .says; left = none-stored (namesOf (request m n (roomOf t))) t (sym counted ∙ e) }
+    reads-none e = record { says = says; left = none-stored (namesOf (request m n (roomOf t))) t (sym counted ∙ e) }
 
     -- they are the denied names noted, where there is room, and are put into the table from the bytes that the walk covered
-    pub reads-names : n < 65536 → (count ≡ 0 → ⊥) → (r : Filled) (t′ : List ℕ) → Fills 13 count (take (x .place - 0) (drop 0 m)) t r t′ → Reads m n t (x .answer) t′
+    pub reads-names : n < 65536 → (count ≡ 0 → ⊥) → (place : ℕ) → place ≡ placeOf (walk reader [] 0 0 (take n m)) → (r : Filled) (t′ : List ℕ) → Fills 13 count (take (place - 0) (drop 0 m)) t r t′ → Reads m n t x t′
     unfolding tableAfter request act once known isUnknown shapeOf rowOf
-    reads-names l h r t′ f =
+    reads-names l h place at r t′ f =
         let always = table-notes act 13 (λ z. omega arith) refl (λ b. refl) in
         record {
-          says = j .says;
+          says = says;
           left =
               all-stored reader 13 always refl judging namesOf (λ r. refl) m n t
               (λ st i. decide-held (length m) (roomOf t) (λ k. ofKind k st) (λ k. kind-inside (length m) k st i) _ (λ u b p a k z. absurd (z refl)) (λ u y a p b k z. absurd (z refl)) (λ p a b q z. (refl, q)) (bodyIn m))
-              count counted h l (x .place) (j .stopped) r t′ f;
+              count counted h l place at r t′ f;
         }
+
+-- ---- the second call: g is the finding that it is given, and f what the walk gives
+
+module _ (m : List ℕ) (f : Finding) (g : Found) (t : List ℕ) (h : toldFinding f ≡ foundBy reader m (g .limit)) (b : Bool) (same : b ≡ sameFound (toldFinding f) g) where
+  pub decides-found : b ≡ true → (x : Answer) (t′ : List ℕ) → Reads m (f .limit) t x t′ → Decides g m t x t′
+  unfolding decided
+  decides-found e x t′ r =
+      let l : f .limit ≡ g .limit = found-limit reader m (g .limit) f h in
+      let s : sameFound (foundBy reader m (g .limit)) g ≡ true = ap (λ (y : Found). sameFound y g) (sym h) ∙ sym same ∙ e in
+      rw (s) (subst (λ (k : ℕ). Reads m k t x t′) l r)
+
+  pub decides-other : b ≡ false → (x : Answer) → x ≡ answer.Refused (record { error = NtsError.InvalidValue; place = 0 }) → Decides g m t x t
+  unfolding decided tableAfter
+  decides-other e x a =
+      let s : sameFound (foundBy reader m (g .limit)) g ≡ false = ap (λ (y : Found). sameFound y g) (sym h) ∙ sym same ∙ e in
+      rw (s) (record { says = ap toldAnswer a; left = none-stored [] t refl })

@@ -1,11 +1,14 @@
 -- What is told of an answer tells any two answers apart: it can be turned back into the answer.
 -- Assumes nothing.
 use mathlib.Core.Path.{_≡_, refl, sym, ap}
+use mathlib.Core.List.{List}
 use Prim.Native.Nat.{ℕ}
 use native.Mathlib.Omega.{arith}
 use Rattle.nts.proofs.Apart.{apart, refusal-apart}
+use Rattle.nts.specs.Refusal as nts
 use Rattle.nts.specs.Refusal.{toldRefusal}
-use Rattle.request.specs.Request.{Told, keyExchangeIs, fixedKeyIs, supportIs, refusedWith, toldRequest, toldAnswer}
+use Rattle.walk.specs.Judge as judge
+use Rattle.request.specs.Request.{Form, keyExchange, fixedKey, support, toldBy, Told, keyExchangeIs, fixedKeyIs, supportIs, refusedWith, toldRequest, toldAnswer}
 use Rattle.request.specs.declared.Request.{Request}
 use Rattle.request.specs.declared.Request.the-variants.{KeyExchange, FixedKey, Support}
 use Rattle.request.specs.declared.Answer.{Answer}
@@ -39,3 +42,10 @@ answer-apart (Refused r) (Accepted w) e = absurd (no-refusal w (sym e))
 answer-apart (Refused r) (Refused s) e =
     let t : toldRefusal r ≡ toldRefusal s = cc in
     ap Refused (refusal-apart r s t)
+
+-- where a refusal is told, it is what is answered
+pub told-refused : (m : List ℕ) (x : judge.Answer Form) (r : nts.Refused) → toldBy m x ≡ refusedWith r → x ≡ judge.refused r
+told-refused m (judge.refused y) r e = let z : y ≡ r = cc in ap judge.refused z
+told-refused m (judge.accepted (keyExchange p a d)) r e = let z : _≡_ {A = ℕ} 0 1 = cc in absurd (omega arith)
+told-refused m (judge.accepted (fixedKey u x a p k)) r e = let z : _≡_ {A = ℕ} 0 1 = cc in absurd (omega arith)
+told-refused m (judge.accepted (support u p a k)) r e = let z : _≡_ {A = ℕ} 0 1 = cc in absurd (omega arith)

@@ -8,3 +8,4 @@ pub mod Lawful
 pub mod Order
 pub mod Within
 pub mod Numbered
+pub mod Deciding

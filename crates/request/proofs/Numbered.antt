@@ -1,7 +1,7 @@
--- A request is refused with 1 to 7 and no other number; 5 alone has a number beside it, of sixteen bits, where the message is bytes.
+-- A request's walk stops with 1 to 4, and a request is refused with 1 to 7 and no other number; 5 alone has a number beside it, of sixteen bits, where the message is bytes.
 -- Assumes nothing.
 use mathlib.Core.Path.{_≡_, refl}
-use mathlib.Core.List.{List}
+use mathlib.Core.List.{List, []}
 use mathlib.Core.Bool.{_&&_, _||_}
 use Prim.Native.Nat.{ℕ, _/_}
 use lib.ListN.{length}
@@ -9,17 +9,25 @@ use lib.Dec.{ltb, eqb}
 use Rattle.wire.specs.Bytes.{numberAt}
 use Rattle.nts.specs.Refusal.{nothing, Refused}
 use Rattle.nts.specs.Algorithm.{Described, known, unknown, describe}
-use Rattle.walk.specs.Walk.{passes, notes, Sighting}
+use Rattle.walk.specs.Walk.{passes, notes, Sighting, stopped, walk}
 use Rattle.walk.specs.Judge.{some, bodyIn, refused}
-use Rattle.walk.proofs.Numbered.{Numbered, bare, ActBy, VerdictBy, small-part, number-small, act-if, act-by, verdict-if, verdict-first, refused-numbered}
+use Rattle.walk.proofs.Numbered.{Numbered, bare, ActBy, VerdictBy, small-part, number-small, act-if, act-by, verdict-if, verdict-first, stopped-numbered, refused-numbered}
 use Rattle.request.specs.Request.{act, reader, Form, keyed, fixedBy, decide, judging, request}
 
--- P says of a number that it may be told: what holds of these seven holds of the number of every refusal
-module _ (P : ℕ → Type 0) (p : P 1 × P 2 × P 3 × P 4 × P 5 × P 6 × P 7) where
-  act-numbered : (k : ℕ) (b : List ℕ) → ActBy P b (act k b)
-  unfolding act
-  act-numbered k b = act-if P b (eqb k 2 || eqb k 3 || eqb k 5) _ _ (bare P b 4 refl (p .3)) (act-if P b (eqb k 6 || eqb k 7) passes notes tt tt)
+-- ---- the walk
 
+act-numbered : (P : ℕ → Type 0) → P 4 → (k : ℕ) (b : List ℕ) → ActBy P b (act k b)
+unfolding act
+act-numbered P p k b = act-if P b (eqb k 2 || eqb k 3 || eqb k 5) _ _ (bare P b 4 refl p) (act-if P b (eqb k 6 || eqb k 7) passes notes tt tt)
+
+-- P says of a number that it may be told: what holds of these four holds of the number that stops a walk
+pub stop-numbered : (P : ℕ → Type 0) → P 1 × P 2 × P 3 × P 4 → (s : List ℕ) (r : Refused) → walk reader [] 0 0 s ≡ stopped r → Numbered P s (r .number) (r .beside)
+stop-numbered P p s r e = stopped-numbered P (p .0, p .1, p .3) reader (act-by P (p .2) act (act-numbered P (p .3))) s r e
+
+-- ---- the whole reader
+
+-- what holds of these seven holds of the number of every refusal
+module _ (P : ℕ → Type 0) (p : P 1 × P 2 × P 3 × P 4 × P 5 × P 6 × P 7) where
   module _ (m : List ℕ) where
     four : Numbered P m 4 nothing
     four = bare P m 4 refl (p .3)
@@ -44,4 +52,4 @@ module _ (P : ℕ → Type 0) (p : P 1 × P 2 × P 3 × P 4 × P 5 × P 6 × P 7
   pub request-numbered : (m : List ℕ) (n room : ℕ) (r : Refused) → request m n room ≡ refused r → Numbered P m (r .number) (r .beside)
   unfolding request
   request-numbered m n room r e =
-      refused-numbered P (p .0, p .1, p .3) reader (act-by P (p .2) act act-numbered) judging m (record { limit = n; room = room }) (λ l. decide-numbered m room l) r e
+      refused-numbered P (p .0, p .1, p .3) reader (act-by P (p .2) act (act-numbered P (p .3))) judging m (record { limit = n; room = room }) (λ l. decide-numbered m room l) r e

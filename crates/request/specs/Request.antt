@@ -3,19 +3,19 @@ use Prim.Native.Nat.{ℕ, _+_, _/_}
 use mathlib.Core.Path.{_≡_}
 use mathlib.Core.List.{List, [], _∷_, map}
 use mathlib.Core.Bool.{Bool, true, false, cond, not, _&&_, _||_}
-use lib.ListN.{length, take}
+use lib.ListN.{length}
 use lib.Dec.{ltb, eqb}
 use Rattle.wire.specs.Bytes.{numberAt}
 use Rattle.wire.specs.Over.{over}
 use Rattle.nts.specs.Refusal.{nothing, code, Refused, toldRefusal}
 use Rattle.nts.specs.Algorithm.{Described, known, unknown, describe}
 use Rattle.layout.specs.declared.Part.{Part}
-use Rattle.walk.specs.Walk.{Act, passes, notes, refuses, Reader, Sighting, walk}
+use Rattle.walk.specs.Walk.{Act, passes, notes, refuses, Reader, Sighting}
 use Rattle.walk.specs.Judge as judge
 use Rattle.walk.specs.Judge.{Verdict, no, yes, Judge, some, withFirst, bodyIn, partOf, readBy}
 use Rattle.walk.specs.Table.{tableReader}
 use Rattle.walk.specs.Rules as rule
-use Rattle.walk.specs.Found.{placeOf}
+use Rattle.walk.specs.Finding.{Found, foundBy, sameFound, toldFinding}
 use Rattle.places.specs.Places.{cells, roomOf}
 use Rattle.request.specs.declared.Request.{Request}
 use Rattle.request.specs.declared.Request.the-variants.{KeyExchange, FixedKey, Support}
@@ -165,14 +165,32 @@ namesOf (judge.accepted (support u p a k)) = []
 unfoldable pub tableAfter : judge.Answer Form → List ℕ → List ℕ
 tableAfter x table = over (cells (namesOf x)) table
 
+-- ---- deciding from a finding: 02, order 2
+
+-- 9, first of all, for a finding that is not what the walk gives over the message under the finding's own limit; otherwise the reader's answer under that
+-- limit
+unfoldable pub decided : Found → List ℕ → ℕ → judge.Answer Form
+decided f m room =
+    cond (sameFound (foundBy reader m (f .limit)) f)
+    (request m (f .limit) room)
+    (judge.refused (record { number = 9; beside = nothing; place = 0 }))
+
 -- ---- the contracts
 
--- what is answered with room for so many names, and the place of the record at which the walk stopped
+-- what is answered, and the table afterwards
+pub record Answers (m : List ℕ) (x : judge.Answer Form) (table : List ℕ) (r : Answer) (table′ : List ℕ) : Type 0 where
+  pub says : toldAnswer r ≡ toldBy m x
+  pub left : table′ ≡ tableAfter x table
+
+-- by the reader: of a message cut after n bytes
+abbrev pub Reads : List ℕ → ℕ → List ℕ → Answer → List ℕ → Type 0
+Reads m n table r table′ = Answers m (request m n (roomOf table)) table r table′
+
+-- by the second call: from a finding
+abbrev pub Decides : Found → List ℕ → List ℕ → Answer → List ℕ → Type 0
+Decides f m table r table′ = Answers m (decided f m (roomOf table)) table r table′
+
+-- what is answered with room for so many names, and the finding
 pub record Judges (m : List ℕ) (n room : ℕ) (r : Judged) : Type 0 where
   pub says : toldAnswer (r .answer) ≡ toldBy m (request m n room)
-  pub stopped : r .place ≡ placeOf (walk reader [] 0 0 (take n m))
-
--- what the reader answers, and the table afterwards
-pub record Reads (m : List ℕ) (n : ℕ) (table : List ℕ) (r : Answer) (table′ : List ℕ) : Type 0 where
-  pub says : toldAnswer r ≡ toldBy m (request m n (roomOf table))
-  pub left : table′ ≡ tableAfter (request m n (roomOf table)) table
+  pub found : toldFinding (r .finding) ≡ foundBy reader m n

@@ -1,4 +1,5 @@
-// Reading a request (the crate's Request::parse): its table for the walk, the decision over what the walk found, and its answers.
+// Reading a request (the crate's Request::parse), which is two things: a walk by the request's table, which hands back a finding, and the decision from
+// that; and the answers.
 use nts::AeadAlgorithm;
 use nts::Description;
 use nts::NextProtocol;
@@ -7,6 +8,7 @@ use nts::Refusal;
 use record::NtsRecord;
 use record::Part;
 use walk::ENDING;
+use walk::Finding;
 use walk::NOTED;
 use walk::ONCE;
 use walk::PASSED;
@@ -17,13 +19,14 @@ use walk::Walked;
 ghost use mathlib.Core.Path.{_≡_};
 ghost use mathlib.Core.List.{List};
 ghost use Prim.Native.Nat.{ℕ};
-ghost use lib.ListN.{length, take};
+ghost use lib.ListN.{length};
 ghost use Rattle.walk.specs.Judge.{bodyIn, placed};
-ghost use Rattle.walk.specs.Found.{entryIn, toldIn, firstIn, Walks};
+ghost use Rattle.walk.specs.Found.{entryIn, toldIn, firstIn};
+ghost use Rattle.walk.specs.Finding.{foundBy, asFinding, toldFinding};
 ghost use Rattle.walk.specs.Code.{Fits};
 ghost use Rattle.request.specs.Code.{isOne, fixedIn, keysAre, deniedIn};
 ghost use Rattle.request.specs.Request as request;
-ghost use Rattle.request.specs.Request.{rules, supportBy, keysBy, exchangeBy, toldBy, toldAnswer, Judges, Reads};
+ghost use Rattle.request.specs.Request.{rules, reader, supportBy, keysBy, exchangeBy, toldBy, toldAnswer, Judges, Reads, Decides};
 
 // A request that was accepted, with the crate's fields; bodies, names and keys are parts of the message.
 pub enum Request {
@@ -56,10 +59,10 @@ pub enum Answer {
 // The bytes of one number.
 const NUMBER: u16 = 2;
 
-// An answer, and the place of the record at which the walk stopped: the end record, or the one refused.
+// An answer, and the finding that it was decided from.
 pub struct Judged {
     pub answer: Answer,
-    pub place: usize,
+    pub finding: Finding,
 }
 
 // What is done with a record, by its kind.
@@ -82,54 +85,110 @@ pub const RULES: [u8; 15] = [
 ];
 
 impl Request {
+    // Walks over a message as if it were cut after `limit` bytes until a record ends it or is refused, and hands back what it found: also of a message
+    // that is not accepted.
+    pub fn walk(message: &[u8], limit: u16) -> Finding
+        ensures { λ r. ⌜ toldFinding r ≡ foundBy reader (now (message .entry)) limit ⌝ }
+    {
+        let mut cells = [0u16; 45];
+        let walked = walk_into(message, limit, &mut cells);
+        let place = walked.place;
+        let stop = walked.stop;
+        Finding {
+            limit: walked.limit,
+            cells,
+            place,
+            stop,
+        }
+    }
+
+    // What `parse` answers under the finding's limit, with the table as it leaves it. 9, before all others and changing no cell, where the finding is not
+    // what `walk` gives over the message under that limit.
+    pub fn decide(finding: Finding, message: &[u8], table: &mut [u16]) -> Answer
+        ensures { λ r. ⌜ Decides (toldFinding finding) (now (message .entry)) (now (table .entry)) r (now (table .exit)) ⌝ }
+    {
+        let again = Request::walk(message, finding.limit);
+        if again.is_same(finding) {
+            let cells = again.cells;
+            let stop = again.stop;
+            let walked = Walked {
+                limit: again.limit,
+                place: again.place,
+                stop,
+            };
+            return settle(walked, &cells, message, table);
+        }
+        refused(NtsError::InvalidValue, 0)
+    }
+
     // Reads a request as if the message were cut after `limit` bytes. The names that an accepted key-exchange request denies
     // go into the table, two cells a name, start and length, in message order; nothing else changes a cell.
     pub fn parse(message: &[u8], limit: u16, table: &mut [u16]) -> Answer
         ensures { λ r. ⌜ Reads (now (message .entry)) limit (now (table .entry)) r (now (table .exit)) ⌝ }
     {
-        let judged = Request::judge(message, limit, table.len() / 2);
-        let answer = judged.answer;
-        let place = judged.place;
-        let denied = denied_in(answer);
-        if denied == 0 {
-            return answer;
-        }
-        places::fill(
-            &message[0..place],
-            NtsRecord::NTP_SERVER_DENY,
-            denied,
-            table,
-        );
-        answer
+        let mut cells = [0u16; 45];
+        let walked = walk_into(message, limit, &mut cells);
+        settle(walked, &cells, message, table)
     }
 
-    // What `parse` answers with room for so many names, and where the walk stopped.
+    // What `parse` answers with room for so many names, and the finding.
     pub fn judge(message: &[u8], limit: u16, room: usize) -> Judged
         ensures { λ r. ⌜ Judges (now (message .entry)) limit room r ⌝ }
     {
         let mut cells = [0u16; 45];
-        let walked = walk_all(message, limit, &mut cells);
+        let walked = walk_into(message, limit, &mut cells);
+        let answer = decision(walked, &cells, message, room);
         let place = walked.place;
         let stop = walked.stop;
-        match stop {
-            Stop::End => Judged {
-                answer: decide(message, &cells, place, room),
-                place,
-            },
-            Stop::Refused(error) => Judged {
-                answer: refused(error, place),
-                place,
-            },
-        }
+        let finding = Finding {
+            limit: walked.limit,
+            cells,
+            place,
+            stop,
+        };
+        Judged { answer, finding }
     }
 }
 
-// The walk by this reader's table.
-fn walk_all(message: &[u8], limit: u16, cells: &mut [u16; 45]) -> Walked
-    ensures { λ r. ⌜ Walks rules (take limit (now (message .entry))) r (now (cells .exit)) ⌝ }
+// The walk by this reader's table, with what it found in the cells.
+fn walk_into(message: &[u8], limit: u16, cells: &mut [u16; 45]) -> Walked
+    ensures { λ r. ⌜ toldFinding (asFinding r (now (cells .exit))) ≡ foundBy reader (now (message .entry)) limit ⌝ }
 {
     let rules = RULES;
     walk::walk(&rules, message, limit, cells)
+}
+
+// The answer that the walk's own finding decides, and the names put into the table.
+fn settle(walked: Walked, cells: &[u16; 45], message: &[u8], table: &mut [u16]) -> Answer
+    requires { ⌜ toldFinding (asFinding walked (now cells)) ≡ foundBy reader (now message) (walked .limit) ⌝ }
+    ensures { λ r. ⌜ Reads (now (message .entry)) (walked .limit) (now (table .entry)) r (now (table .exit)) ⌝ }
+{
+    let place = walked.place;
+    let answer = decision(walked, cells, message, table.len() / 2);
+    let denied = denied_in(answer);
+    if denied == 0 {
+        return answer;
+    }
+    places::fill(
+        &message[0..place],
+        NtsRecord::NTP_SERVER_DENY,
+        denied,
+        table,
+    );
+    answer
+}
+
+// The decision from the walk's own finding, with room for so many names: what stopped the walk, or, after the end record, what was found.
+fn decision(walked: Walked, cells: &[u16; 45], message: &[u8], room: usize) -> Answer
+    requires { ⌜ toldFinding (asFinding walked (now cells)) ≡ foundBy reader (now message) (walked .limit) ⌝ }
+    ensures { λ r. ⌜ toldAnswer r ≡ toldBy (now (message .entry)) (request.request (now (message .entry)) (walked .limit) room) ⌝ }
+{
+    let place = walked.place;
+    let stop = walked.stop;
+    match stop {
+        Stop::End => decide_ended(message, cells, place, room),
+        Stop::Refused(error) => refused(error, place),
+    }
 }
 
 fn refused(error: NtsError, place: usize) -> Answer
@@ -139,7 +198,7 @@ fn refused(error: NtsError, place: usize) -> Answer
 }
 
 // The decision after the end record, whose place a refusal bears.
-fn decide(message: &[u8], cells: &[u16; 45], place: usize, room: usize) -> Answer
+fn decide_ended(message: &[u8], cells: &[u16; 45], place: usize, room: usize) -> Answer
     requires { ⌜ Fits rules (length (now message)) (now cells) ⌝ }
     ensures { λ r. ⌜ toldAnswer r ≡ toldBy (now (message .entry)) (placed place (request.decide room (bodyIn (now (message .entry))) (toldIn (now (cells .entry))))) ⌝ }
 {

@@ -18,6 +18,9 @@ pub mod Marks
 pub mod Tables
 pub mod Like
 pub mod Answered
+pub mod Keeping
+pub mod Telling
+pub mod Sameness
 pub mod Meets
 pub mod Same
 pub mod Within

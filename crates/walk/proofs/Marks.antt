@@ -85,7 +85,7 @@ passedBy met j On = on (withMet met j)
 passedBy met j End = halts
 passedBy met j (Stop e) = halts
 
-bit-count : (b : Bool) → b ≡ ltb 0 (cond b 1 0)
+pub bit-count : (b : Bool) → b ≡ ltb 0 (cond b 1 0)
 bit-count true = refl
 bit-count false = refl
 

@@ -19,7 +19,7 @@ use Rattle.walk.specs.Shown.{markAt, slotOf, counted}
 use Rattle.walk.specs.Found.{seenOf, entryIn, Stands, Walks}
 use Rattle.walk.specs.Code.{putIn, moreIn}
 use Rattle.walk.specs.declared.Seen.{Seen}
-use Rattle.walk.specs.declared.Walked.{Walked}
+use Rattle.walk.specs.declared.Halted.{Halted}
 use Rattle.walk.proofs.Known.{eleven-unknown}
 use Rattle.walk.proofs.Meeting.{moreOf}
 
@@ -203,6 +203,6 @@ count-few f sh j h s =
     omega (arith, n, few-kind j sh)
 
 -- what a caller that decides after the end has of a kind that its table notes
-pub entry-of : (rules s : List ℕ) (r : Walked) (c : List ℕ) → Walks rules s r c → (at next : ℕ) (st : List Sighting) → walk (readerOf rules) [] 0 0 s ≡ ended at next st
+pub entry-of : (rules s : List ℕ) (r : Halted) (c : List ℕ) → Walks rules s r c → (at next : ℕ) (st : List Sighting) → walk (readerOf rules) [] 0 0 s ≡ ended at next st
     → (k : ℕ) → k < 15 → known k ≡ true → isNoted (getD rules k 0) ≡ true → entryIn c k ≡ seenOf (ofKind k st)
 entry-of rules s r c w at next st e k l kn nt = w .met .each k l ∙ ap seenOf (sym (w .noted at next st e k kn nt))

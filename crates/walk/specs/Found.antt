@@ -1,4 +1,5 @@
--- What a walk found, by kind, in 45 cells, and how it stopped: the contract of the walk in code, for every table.
+-- What a walk found, by kind, in 45 cells, and how it stopped, for every table: what the walk's loop is proved to give. The public walk says the same as one finding
+-- (Finding.antt).
 use Prim.Native.Nat.{ℕ, zero, suc, _+_, _*_, _<_}
 use mathlib.Core.Path.{_≡_}
 use mathlib.Core.List.{List, [], _∷_, map}
@@ -13,7 +14,7 @@ use Rattle.walk.specs.Shown.{shown, counted}
 use Rattle.walk.specs.declared.Seen.{Seen}
 use Rattle.walk.specs.declared.Stop.{Stop}
 use Rattle.walk.specs.declared.Stop.the-variants as stop
-use Rattle.walk.specs.declared.Walked.{Walked}
+use Rattle.walk.specs.declared.Halted.{Halted}
 
 -- ---- what was found
 
@@ -62,11 +63,11 @@ abbrev pub placeOf : Outcome → ℕ
 placeOf (stopped r) = r .place
 placeOf (ended at next st) = at
 
--- ---- the contract
+-- ---- what the loop gives
 
 -- the walk by a table over the message s: where and how it stops; the cells for the records that it met; and that of each kind which the table
 -- notes those are the records noted, where it ended
-pub record Walks (rules s : List ℕ) (r : Walked) (c : List ℕ) : Type 0 where
+pub record Walks (rules s : List ℕ) (r : Halted) (c : List ℕ) : Type 0 where
   pub says : wayBy (r .place) (r .stop) ≡ wayOf (walk (readerOf rules) [] 0 0 s)
   pub met : Stands c (map counted (shown (readerOf rules) [] 0 0 s))
   pub noted : (at next : ℕ) (st : List Sighting) → walk (readerOf rules) [] 0 0 s ≡ ended at next st → (k : ℕ) → known k ≡ true → isNoted (getD rules k 0) ≡ true

@@ -5,5 +5,6 @@ pub mod Table
 pub mod Rules
 pub mod Shown
 pub mod Found
+pub mod Finding
 pub mod Code
 pub mod Met

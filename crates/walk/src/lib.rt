@@ -1,5 +1,6 @@
-// The walk over a message, one loop for every reader: a reader is a table that says by kind what is done with a record. Definitions that are the
-// same for every reader stand in specs/, what holds for every reader in proofs/.
+// The walk over a message, one loop for every reader: a reader is a table that says by kind what is done with a record, and what the walk hands back
+// is a finding. Definitions that are the same for every reader stand in specs/, what holds for every reader in proofs/.
+use nts::Code;
 use nts::ErrorCode;
 use nts::NtsError;
 use nts::WarningCode;
@@ -13,9 +14,12 @@ ghost use Rattle.wire.specs.Bytes.{numberAt};
 ghost use Rattle.walk.specs.Walk.{CutOf};
 ghost use Rattle.walk.specs.Judge.{some};
 ghost use Rattle.walk.specs.Shown.{slotOf};
-ghost use mathlib.Core.Bool.{cond};
+ghost use mathlib.Core.Bool.{cond, _&&_};
+ghost use lib.Dec.{eqb};
+ghost use Rattle.nts.specs.Refusal.{numberOf, besideOf, toldCode};
 ghost use Rattle.walk.specs.Rules.{readerOf};
-ghost use Rattle.walk.specs.Found.{entryIn, toldIn, Walks};
+ghost use Rattle.walk.specs.Found.{entryIn, toldIn, wayBy, Walks};
+ghost use Rattle.walk.specs.Finding.{sameNumbers, sameBeside, sameWay, sameFound, foundBy, asFinding, toldFinding};
 ghost use Rattle.walk.specs.Met.{isMet, withMet, passing, toldPassed};
 ghost use Rattle.walk.specs.Code.{errorOf, asked, atMost, ruledOf, unknownOf, verdictOf, moreIn, Met, Few, lookedOf, Steps};
 
@@ -67,16 +71,47 @@ pub enum Stop {
     Refused(NtsError),
 }
 
-// A walk that has stopped: the place of the record that stopped it, and why.
+// How a walk went: under which limit, the place of the record that stopped it, and why.
 pub struct Walked {
+    pub limit: u16,
     pub place: usize,
     pub stop: Stop,
+}
+
+// What a walk hands back: the limit under which it went; what it found, three cells a kind: how many records were met, and start and length of the
+// first one's body; the place of the record that stopped it, and why.
+pub struct Finding {
+    pub limit: u16,
+    pub cells: [u16; 45],
+    pub place: usize,
+    pub stop: Stop,
+}
+
+impl Finding {
+    // Whether two findings are the same, number by number.
+    pub fn is_same(self, other: Finding) -> bool
+        ensures { λ r. ⌜ r ≡ sameFound (toldFinding self) (toldFinding other) ⌝ }
+    {
+        let stop = self.stop;
+        let also = other.stop;
+        let cells = self.cells;
+        let others = other.cells;
+        (self.limit == other.limit)
+            & same_stop(self.place, stop, other.place, also)
+            & same_numbers(&cells, &others)
+    }
 }
 
 // Whether a walk goes on past a record: with its kind met as well, a bit a kind; or it stops with it.
 pub enum Passed {
     On(u16),
     Stopped,
+}
+
+// Where a walk has stopped, and why.
+struct Halted {
+    place: usize,
+    stop: Stop,
 }
 
 // What one record does to a walk.
@@ -104,13 +139,16 @@ pub fn cut_at(message: &[u8], limit: u16) -> &[u8]
 }
 
 // The walk by a table over a message as if it were cut after `limit` bytes: record after record, until one is refused or the first that ends it.
-// What it found goes into the cells, three a kind: count, and start and length of the first body. A record that is refused counts; one that does
-// not read does not.
+// What it found goes into the cells, so that a reader which has no other use for a finding does not pay for its copies. A record that is refused counts; one that
+// does not read does not.
 pub fn walk(rules: &[u8; 15], message: &[u8], limit: u16, cells: &mut [u16; 45]) -> Walked
-    ensures { λ r. ⌜ Walks (now (rules .entry)) (take limit (now (message .entry))) r (now (cells .exit)) ⌝ }
+    ensures { λ r. ⌜ toldFinding (asFinding r (now (cells .exit))) ≡ foundBy (readerOf (now (rules .entry))) (now (message .entry)) limit ⌝ }
 {
     let cut = cut_at(message, limit);
-    walk_cut(rules, cut, cells)
+    let halted = walk_cut(rules, cut, cells);
+    let place = halted.place;
+    let stop = halted.stop;
+    Walked { limit, place, stop }
 }
 
 // What a walk found of a kind, or of all unknown ones.
@@ -163,6 +201,61 @@ pub fn pass(rules: &[u8; 15], bytes: &[u8], at: usize, met: u16) -> Passed
     }
 }
 
+// Whether two walks stopped alike: at one place, and for one reason.
+fn same_stop(place: usize, stop: Stop, elsewhere: usize, other: Stop) -> bool
+    ensures { λ r. ⌜ r ≡ sameWay (wayBy place stop) (wayBy elsewhere other) ⌝ }
+{
+    match stop {
+        Stop::End => match other {
+            Stop::End => place == elsewhere,
+            Stop::Refused(_) => false,
+        },
+        Stop::Refused(error) => match other {
+            Stop::End => false,
+            Stop::Refused(told) => same_error(error, told) & (place == elsewhere),
+        },
+    }
+}
+
+// Whether two refusals have one number, and the same beside it.
+fn same_error(error: NtsError, other: NtsError) -> bool
+    ensures { λ r. ⌜ r ≡ (eqb (numberOf error) (numberOf other) && sameBeside (besideOf error) (besideOf other)) ⌝ }
+{
+    (error.number() == other.number()) & same_code(error.code(), other.code())
+}
+
+fn same_code(code: Code, other: Code) -> bool
+    ensures { λ r. ⌜ r ≡ sameBeside (toldCode code) (toldCode other) ⌝ }
+{
+    match code {
+        Code::None => match other {
+            Code::None => true,
+            Code::Number(_) => false,
+        },
+        Code::Number(n) => match other {
+            Code::None => false,
+            Code::Number(k) => n == k,
+        },
+    }
+}
+
+// Whether two rows of numbers are the same.
+fn same_numbers(numbers: &[u16], others: &[u16]) -> bool
+    ensures { λ r. ⌜ r ≡ sameNumbers (now (numbers .entry)) (now (others .entry)) ⌝ }
+{
+    if numbers.len() != others.len() {
+        return false;
+    }
+    let mut i: usize = 0;
+    while i < numbers.len() {
+        if numbers[i] != others[i] {
+            return false;
+        }
+        i += 1;
+    }
+    true
+}
+
 // 1 where a record of the kind was met, and 0 where none was.
 fn met_before(met: u16, slot: usize) -> u16
     requires { ⌜ slot < 15 ⌝ }
@@ -179,7 +272,7 @@ fn with_met(met: u16, slot: usize) -> u16
     met | (1u16 << slot)
 }
 
-fn walk_cut(rules: &[u8; 15], cut: &[u8], cells: &mut [u16; 45]) -> Walked
+fn walk_cut(rules: &[u8; 15], cut: &[u8], cells: &mut [u16; 45]) -> Halted
     requires { ⌜ length (now cut) < 2 ^ 16 ⌝ }
     ensures { λ r. ⌜ Walks (now (rules .entry)) (now (cut .entry)) r (now (cells .exit)) ⌝ }
 {
@@ -193,13 +286,13 @@ fn walk_cut(rules: &[u8; 15], cut: &[u8], cells: &mut [u16; 45]) -> Walked
                 at = stepped.next;
             }
             Verdict::End => {
-                return Walked {
+                return Halted {
                     place: at,
                     stop: Stop::End,
                 };
             }
             Verdict::Stop(error) => {
-                return Walked {
+                return Halted {
                     place: at,
                     stop: Stop::Refused(error),
                 };

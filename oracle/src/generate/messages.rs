@@ -153,7 +153,7 @@ pub fn shuffle(random: &mut Random, records: &mut [Vec<u8>]) {
 }
 
 /// Drops, doubles, moves or adds a record.
-fn mutate(random: &mut Random, records: &mut Vec<Vec<u8>>) {
+pub fn mutate(random: &mut Random, records: &mut Vec<Vec<u8>>) {
     for _ in 0..random.between(1, 2) {
         let count = records.len();
         if count == 0 {
@@ -181,7 +181,7 @@ fn mutate(random: &mut Random, records: &mut Vec<Vec<u8>>) {
 }
 
 /// Cuts a message or turns over bits of it.
-fn spoil(random: &mut Random, message: &mut Vec<u8>) {
+pub fn spoil(random: &mut Random, message: &mut Vec<u8>) {
     if message.is_empty() {
         return;
     }

@@ -1,4 +1,4 @@
-//! The payloads of ops g, n, a, p, P and k, and of f and F.
+//! The payloads of ops g, n, a, p, P and k, of f and F, and of v and V.
 
 /// The tags of a tray's fields.
 pub const COOKIE: u8 = 1;
@@ -85,6 +85,27 @@ impl Feed {
         let pieces: Vec<Vec<u8>> = pieces.into_iter().map(lent).collect();
         let head = [&long(self.limit)[..], &half(self.cells), &long(self.buffer), &[u8::from(self.close)]].concat();
         [head, half(pieces.len()).to_vec(), pieces.concat()].concat()
+    }
+}
+
+/// Op v.
+pub fn walk(limit: usize, message: &[u8]) -> Vec<u8> {
+    [&long(limit)[..], message].concat()
+}
+
+/// Op V: what is decided under, and which number of the finding is replaced by what; 0 is none.
+#[derive(Clone, Copy)]
+pub struct Decide {
+    pub limit: usize,
+    pub cells: usize,
+    pub which: u8,
+    pub value: u64,
+}
+
+impl Decide {
+    pub fn payload(&self, walked: &[u8], message: &[u8]) -> Vec<u8> {
+        let value = self.value.to_be_bytes();
+        [&long(self.limit)[..], &half(self.cells), &[self.which], &value, &lent(walked), message].concat()
     }
 }
 

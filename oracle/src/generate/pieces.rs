@@ -204,7 +204,7 @@ fn random_feed(
 }
 
 /// A limit other than the crate's: around the message's length, around where a record begins, inside it, or any.
-fn limit(random: &mut Random, message: &[u8]) -> usize {
+pub fn limit(random: &mut Random, message: &[u8]) -> usize {
     let around = match random.below(5) {
         0 => message.len(),
         1 | 2 => random.pick(&places(message)),

@@ -2,7 +2,7 @@
 
 use std::io::{self, BufRead, Write};
 
-use super::{choosing, lines, pieces, plans, reading, replies, requests, sending, trays, writing};
+use super::{choosing, findings, lines, pieces, plans, reading, replies, requests, sending, trays, writing};
 use crate::corpus::Cases;
 
 pub fn corpus(input: impl BufRead, out: &mut impl Write) -> io::Result<bool> {
@@ -44,6 +44,8 @@ fn answered(line: &mut Vec<u8>, op: u8, payload: &[u8]) -> Option<()> {
         b'l' => replies::under_a_limit(line, payload),
         b'f' => pieces::request(line, payload),
         b'F' => pieces::reply(line, payload),
+        b'v' => findings::walked(line, payload),
+        b'V' => findings::decided(line, payload),
         b'w' => writing::written(line, payload),
         b'W' => writing::written_into(line, payload),
         b'X' => writing::written_part(line, payload),

@@ -1,21 +1,23 @@
--- `request::Request::judge` meets its contract: the walk by the table, and where it ended the decision over what it found.
+-- `request::Request::judge` meets its contract: the walk, and the decision from what it found.
 -- Assumes nothing.
+use mathlib.Core.Path.{_≡_, subst}
+use Prim.Native.Nat.{ℕ}
 use denote.Ref.{now}
-use Rattle.request.proofs.Answering.{judged-refused, judged-fits, judged-ended}
+use Rattle.walk.specs.Finding.{asFinding}
+use Rattle.walk.proofs.Telling.{found-limit, found-own}
+use Rattle.request.specs.Request.{reader, request, toldBy, toldAnswer}
 use borrow.Author.Needs.{needs}
 use Rattle.request.proofs.Request.judge.Statement.{statement}
 use Rattle.request.proofs.Request.judge.Tie as tie
 
-decide-requires : tie.Need-decide-requires
-decide-requires c κs = judged-fits (now (c .before .before .before .before .before .before .args .message)) (c .before .before .before .before .before .before .args .limit) (c .before .before .before .before .before .before .args .room) _ _ (c .before .before .before .walk-all .ensures) (c .before .enum-told .given .1)
+decision-requires : tie.Need-decision-requires
+decision-requires c κs = found-own reader _ _ (asFinding (c .before .walk-into .result) (c .before .walk-into .last .1 .1 .0)) (c .before .walk-into .ensures)
 
 returns : tie.Need-returns
-returns c = judged-ended _ _ _ _ _ (c .before .before .before .before .walk-all .ensures) (c .before .before .enum-told .given .1) _ (c .decide .ensures)
-
-returns-2 : tie.Need-returns-2
-returns-2 c = judged-refused _ _ _ _ _ (c .before .before .before .before .walk-all .ensures) _ (c .before .before .stop .given .1) _ (c .refused .ensures)
+returns c = record {
+  says = subst (λ (n : ℕ). toldAnswer (c .decision .result) ≡ toldBy (now (c .before .before .before .before .before .args .message)) (request (now (c .before .before .before .before .before .args .message)) n (c .before .before .before .before .before .args .room))) (found-limit reader _ _ (asFinding (c .before .before .walk-into .result) (c .before .before .walk-into .last .1 .1 .0)) (c .before .before .walk-into .ensures)) (c .decision .ensures);
+  found = c .before .before .walk-into .ensures;
+}
 
 pub judge-spec : {M : Type 1} → statement M
-judge-spec =
-    tie.close
-    (tie.spec (λ c κs. search needs) (λ c. search needs) decide-requires (λ c. search needs) (λ c κs. search needs) returns returns-2)
+judge-spec = tie.close (tie.spec (λ c κs. search needs) decision-requires returns)

@@ -1,22 +1,20 @@
--- `request::Request::parse` meets its contract: what is judged, and where names are denied the table filled from the bytes that the walk covered.
+-- `request::Request::parse` meets its contract: the walk, and what it found settled.
 -- Assumes nothing.
-use native.Mathlib.Omega.{arith}
+use mathlib.Core.Path.{subst}
+use Prim.Native.Nat.{ℕ}
 use denote.Ref.{now}
-use Rattle.request.proofs.Answering.{place-inside, reads-none, reads-names}
+use Rattle.walk.specs.Finding.{asFinding}
+use Rattle.walk.proofs.Telling.{found-limit, found-own}
+use Rattle.request.specs.Request.{reader, Reads}
 use borrow.Author.Needs.{needs}
 use Rattle.request.proofs.Request.parse.Statement.{statement}
 use Rattle.request.proofs.Request.parse.Tie as tie
 
+settle-requires : tie.Need-settle-requires
+settle-requires c κs = found-own reader _ _ (asFinding (c .before .before .walk-into .result) (c .before .before .walk-into .last .1 .1 .0)) (c .before .before .walk-into .ensures)
+
 returns : tie.Need-returns
-returns c = reads-none _ _ (now (c .before .before .before .before .before .args .table)) _ (c .before .before .judge .ensures) _ (c .before .denied-in .ensures) (c .if1 .taken)
-
-part-fill-end : tie.Need-part-fill-end
-part-fill-end c = place-inside _ _ (now (c .before .before .before .before .before .args .table)) _ (c .before .before .judge .ensures)
-
-returns-2 : tie.Need-returns-2
-returns-2 c = reads-names _ _ (now (c .before .before .before .before .before .before .before .before .before .before .args .table)) _ (c .before .before .before .before .before .before .before .judge .ensures) _ (c .before .before .before .before .before .before .denied-in .ensures) (omega arith) (c .before .before .before .before .before .if1 .left) _ _ (c .before .before .fill .ensures)
+returns c = subst (λ (n : ℕ). Reads (now (c .before .before .before .before .before .before .before .before .before .args .message)) n (now (c .before .before .before .before .before .before .before .before .before .args .table)) (c .before .before .settle .result) (c .before .before .settle .last .1 .1 .1 .0)) (found-limit reader _ _ (asFinding (c .before .before .before .before .before .walk-into .result) (c .before .before .before .before .before .walk-into .last .1 .1 .0)) (c .before .before .before .before .before .walk-into .ensures)) (c .before .before .settle .ensures)
 
 pub parse-spec : {M : Type 1} → statement M
-parse-spec =
-    tie.close
-    (tie.spec (λ c κs. search needs) (λ c κs. search needs) returns (λ c. search needs) (λ c. search needs) part-fill-end (λ c κs. search needs) (λ c. search needs) returns-2)
+parse-spec = tie.close (tie.spec (λ c κs. search needs) settle-requires (λ c. search needs) returns)

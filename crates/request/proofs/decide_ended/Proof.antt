@@ -1,4 +1,4 @@
--- `request::decide` meets its contract: the tests are the definition's, in its order.
+-- `request::decide_ended` meets its contract: the tests are the definition's, in its order.
 -- Assumes nothing.
 use mathlib.Core.Path.{sym, _∙_}
 use Rattle.layout.specs.Table.{rowOf, shapeOf, isUnknown}
@@ -6,8 +6,8 @@ use Rattle.walk.specs.Table.{known}
 use Rattle.walk.specs.Shown.{slotOf}
 use Rattle.request.proofs.Decided.{by-support, by-keys, by-exchange}
 use borrow.Author.Needs.{needs}
-use Rattle.request.proofs.decide.Statement.{statement}
-use Rattle.request.proofs.decide.Tie as tie
+use Rattle.request.proofs.decide_ended.Statement.{statement}
+use Rattle.request.proofs.decide_ended.Tie as tie
 
 returns : tie.Need-returns
 unfolding slotOf known isUnknown shapeOf rowOf
@@ -25,7 +25,7 @@ returns-4 : tie.Need-returns-4
 unfolding slotOf known isUnknown shapeOf rowOf
 returns-4 c = c .decide-exchange .ensures _ ∙ by-exchange _ _ _ _ (rw (sym (c .before .before .before .before .before .before .is-there .ensures) ∙ c .before .before .before .before .before .if1 .left, sym (c .before .before .before .before .is-there2 .ensures) ∙ c .before .before .before .if2 .left)) (sym (c .before .before .is-there3 .ensures) ∙ c .before .if3 .left)
 
-pub decide-spec : {M : Type 1} → statement M
-decide-spec =
+pub decide-ended-spec : {M : Type 1} → statement M
+decide-ended-spec =
     tie.close
     (tie.spec (λ c κs. search needs) (λ c κs. search needs) returns (λ c κs. search needs) (λ c κs. search needs) returns-2 (λ c κs. search needs) (λ c κs. search needs) returns-3 (λ c κs. search needs) returns-4)

@@ -1,0 +1,5 @@
+pub mod Copying
+pub mod Refusing
+pub mod Deciding
+pub mod Back
+pub mod Same
