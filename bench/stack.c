@@ -25,14 +25,15 @@ static size_t message_len, reply_len, used, count;
 
 static uint64_t nothing(void) { return NTSKE_OK; }
 static uint64_t read_request(void) { return ntske_read_request(message, message_len, NTSKE_LIMIT, table, 2 * NAMES, &request); }
-static uint64_t read_reply(void) { return ntske_read_reply(out, reply_len, NTSKE_LIMIT, table, 2 * NAMES, &reply); }
+static uint64_t read_reply(void) { return ntske_read_reply(out, reply_len, NTSKE_LIMIT, numbers, 1, numbers + 1, 1, table, 2 * NAMES, &reply); }
 static uint64_t walk_request(void) { return ntske_walk_request(message, message_len, NTSKE_LIMIT, &finding); }
 static uint64_t decide_request(void) { return ntske_decide_request(&finding, message, message_len, table, 2 * NAMES, &request); }
 static uint64_t feed_request(void) {
     return ntske_connection_new(NTSKE_LIMIT, &line) | ntske_feed_request(&line, message, message_len, buffer, sizeof buffer, table, 2 * NAMES, &request);
 }
 static uint64_t feed_reply(void) {
-    return ntske_connection_new(NTSKE_LIMIT, &line) | ntske_feed_reply(&line, out, reply_len, buffer, sizeof buffer, table, 2 * NAMES, &reply);
+    return ntske_connection_new(NTSKE_LIMIT, &line) |
+           ntske_feed_reply(&line, out, reply_len, numbers, 1, numbers + 1, 1, buffer, sizeof buffer, table, 2 * NAMES, &reply);
 }
 static uint64_t read_record(void) { return ntske_read_record(message, message_len, 12, &record); }
 static uint64_t is_utf8(void) { return !ntske_is_utf8(text, sizeof text); }

@@ -5,7 +5,7 @@
  *     ./archive && cc -std=c11 -Iinclude examples/host.c target/lib/libntske.a -o host && ./host [BYTES]
  *
  * A message is read as it comes: a side hands over what it takes off its pipe, at most so many BYTES at once, until there is an answer. Of a request that it
- * refuses the server logs which records it held.
+ * refuses the server logs which records it held. The client reads a reply with what it offered, so that one which names anything else is refused.
  */
 #define _POSIX_C_SOURCE 200809L
 #include "ntske.h"
@@ -20,12 +20,25 @@ enum { SIZE = 4096, ENTRIES = 16 };
 /* How many bytes are taken off a pipe at once. */
 static size_t most = SIZE;
 
-/* A reader's refusal in words, with its place and the code beside it. */
+/* What a client offers. */
+struct offer {
+    const uint16_t *protocols;
+    size_t protocols_len;
+    const uint16_t *algorithms;
+    size_t algorithms_len;
+};
+
+/* A reader's refusal in words, with its place and the number beside it. */
 static void tell(const char *who, uint64_t answer)
 {
+    static const char *const sorts[] = {
+        [NTSKE_BESIDE_PROTOCOL] = "protocol",
+        [NTSKE_BESIDE_ALGORITHM] = "algorithm",
+        [NTSKE_BESIDE_CODE] = "code",
+    };
     printf("%s: refused %u at %lu: %s", who, ntske_refusal(answer), ntske_place(answer), ntske_words(answer));
     if (ntske_has_beside(answer))
-        printf(", code %u", ntske_beside(answer));
+        printf(", %s %u", sorts[ntske_beside_sort(answer)], ntske_beside(answer));
     printf("\n");
 }
 
@@ -48,8 +61,9 @@ static size_t take(int from, uint8_t piece[SIZE])
     return (size_t)got;
 }
 
-/* The reply to a key-exchange request that was read: its length in `out`. */
-static size_t answer_request(const uint8_t *message, size_t len, const uint16_t *table, const struct ntske_key_exchange *request, uint8_t out[SIZE])
+/* The reply to a key-exchange request that was read: its length in `out`. Where a choice is given, it is taken whatever the client offers. */
+static size_t answer_request(const uint8_t *message, size_t len, const uint16_t *table, const struct ntske_key_exchange *request,
+                             const struct ntske_choice *given, uint8_t out[SIZE])
 {
     static const uint16_t own_protocols[] = {NTSKE_NTPV4}, own_algorithms[] = {NTSKE_AES_SIV_CMAC_256};
     static const char name[] = "time.example", first[] = "first cookie", second[] = "second cookie";
@@ -67,7 +81,11 @@ static size_t answer_request(const uint8_t *message, size_t len, const uint16_t 
     }
     printf("\n");
 
-    uint64_t answer = ntske_choose(protocols, request->protocols.len, algorithms, request->algorithms.len, own_protocols, 1, own_algorithms, 1, &chosen);
+    uint64_t answer = NTSKE_OK;
+    if (given != NULL)
+        chosen = *given;
+    else
+        answer = ntske_choose(protocols, request->protocols.len, algorithms, request->algorithms.len, own_protocols, 1, own_algorithms, 1, &chosen);
     if (answer != NTSKE_OK)
         printf("server: refused %u: %s\n", ntske_refusal(answer), ntske_words(answer));
     switch (ntske_refusal(answer)) {
@@ -128,7 +146,7 @@ static void log_request(const uint8_t *message, size_t len)
         printf("log: stopped at %u: %s (%u)\n", finding.place, ntske_words(finding.reason), finding.reason);
 }
 
-static void server(int from, int to)
+static void server(int from, int to, const struct ntske_choice *given)
 {
     uint8_t piece[SIZE], message[SIZE], out[SIZE];
     uint16_t table[2 * ENTRIES];
@@ -154,12 +172,12 @@ static void server(int from, int to)
         printf("server: no key exchange\n");
         must(ntske_write_error(NTSKE_CODE_BAD_REQUEST, out, SIZE, &written) == NTSKE_OK);
     } else {
-        written = answer_request(message, line.gathered, table, &request.key_exchange, out);
+        written = answer_request(message, line.gathered, table, &request.key_exchange, given, out);
     }
     send_all(to, out, written);
 }
 
-static void client(int from)
+static void client(int from, const struct offer *offer)
 {
     uint8_t piece[SIZE], message[SIZE];
     uint16_t table[2 * ENTRIES];
@@ -172,9 +190,11 @@ static void client(int from)
     do {
         size_t len = take(from, piece);
         if (len > 0)
-            answer = ntske_feed_reply(&line, piece, len, message, SIZE, table, 2 * ENTRIES, &reply);
+            answer = ntske_feed_reply(&line, piece, len, offer->protocols, offer->protocols_len, offer->algorithms, offer->algorithms_len, message, SIZE, table,
+                                      2 * ENTRIES, &reply);
         else
-            answer = ntske_close_reply(&line, message, SIZE, table, 2 * ENTRIES, &reply);
+            answer = ntske_close_reply(&line, offer->protocols, offer->protocols_len, offer->algorithms, offer->algorithms_len, message, SIZE, table,
+                                       2 * ENTRIES, &reply);
     } while (answer == NTSKE_WAITING);
 
     if (answer != NTSKE_OK) {
@@ -193,11 +213,20 @@ static void client(int from)
     }
 }
 
+/* The request by which a client offers this and denies the names in the used part of a tray: its length in `out`. */
+static size_t ask(const struct offer *offer, const uint8_t *denied, size_t used, uint8_t *out, size_t out_len)
+{
+    size_t written = 0;
+    must(ntske_write_request(offer->protocols, offer->protocols_len, offer->algorithms, offer->algorithms_len, denied, used, used, out, out_len,
+                             &written) == NTSKE_OK);
+    return written;
+}
+
 /* What a client does after it has sent its request. */
 enum then { WAITS, CLOSES };
 
-/* One exchange: what the client sends, what the server makes of it, and what the client makes of the reply. */
-static void exchange(const char *title, const uint8_t *request, size_t len, enum then then)
+/* One exchange: what the client sends and offers by it, what the server makes of it, and what the client makes of the reply. */
+static void exchange(const char *title, const uint8_t *request, size_t len, const struct offer *offer, enum then then, const struct ntske_choice *given)
 {
     int up[2], down[2];
     must(pipe(up) == 0 && pipe(down) == 0);
@@ -206,8 +235,8 @@ static void exchange(const char *title, const uint8_t *request, size_t len, enum
     send_all(up[1], request, len);
     if (then == CLOSES)
         close(up[1]);
-    server(up[0], down[1]);
-    client(down[0]);
+    server(up[0], down[1], given);
+    client(down[0], offer);
     if (then == WAITS)
         close(up[1]);
     close(up[0]);
@@ -218,6 +247,10 @@ static void exchange(const char *title, const uint8_t *request, size_t len, enum
 int main(int argc, char **argv)
 {
     static const uint16_t protocols[] = {NTSKE_NTPV4}, algorithms[] = {NTSKE_AES_SIV_CMAC_512, NTSKE_AES_SIV_CMAC_256};
+    /* both algorithms, and each by itself */
+    static const struct offer both = {protocols, 1, algorithms, 2}, longer = {protocols, 1, algorithms, 1}, shorter = {protocols, 1, algorithms + 1, 1};
+    /* what a machine of a pool answers, whatever it is asked */
+    static const struct ntske_choice pool = {.protocol = NTSKE_NTPV4, .algorithm = NTSKE_AES_SIV_CMAC_512};
     static const char name[] = "old.example";
     /* of one character, which has two bytes */
     static const char character[] = "\xC3\xA9";
@@ -232,24 +265,27 @@ int main(int argc, char **argv)
         most = strtoul(argv[1], NULL, 10);
     must(most >= 1 && most <= SIZE && ntske_version() == NTSKE_VERSION);
     must(ntske_append_denied((const uint8_t *)name, strlen(name), denied, sizeof denied, &used) == NTSKE_OK);
-    must(ntske_write_request(protocols, 1, algorithms, 2, denied, sizeof denied, used, out, SIZE, &written) == NTSKE_OK);
-    exchange("a key exchange", out, written, WAITS);
+    written = ask(&both, denied, used, out, SIZE);
+    exchange("a key exchange", out, written, &both, WAITS, NULL);
 
-    exchange("a request that is cut", out, 10, CLOSES);
+    exchange("a request that is cut", out, 10, &both, CLOSES, NULL);
 
     used = 0;
     must(ntske_append_denied((const uint8_t *)character, strlen(character), denied, sizeof denied, &used) == NTSKE_OK);
-    must(ntske_write_request(protocols, 1, algorithms + 1, 1, denied, sizeof denied, used, out, SIZE, &written) == NTSKE_OK);
-    exchange("a name of one character in two bytes", out, written, WAITS);
+    written = ask(&shorter, denied, used, out, SIZE);
+    exchange("a name of one character in two bytes", out, written, &shorter, WAITS, NULL);
 
-    exchange("a record that is ill-formed", ill_formed, sizeof ill_formed, WAITS);
+    exchange("a record that is ill-formed", ill_formed, sizeof ill_formed, &shorter, WAITS, NULL);
 
-    must(ntske_write_request(protocols, 1, algorithms, 1, NTSKE_NO_BYTES, 0, 0, out, SIZE, &written) == NTSKE_OK);
-    exchange("no algorithm in common", out, written, WAITS);
+    written = ask(&longer, NTSKE_NO_BYTES, 0, out, SIZE);
+    exchange("no algorithm in common", out, written, &longer, WAITS, NULL);
+
+    written = ask(&shorter, NTSKE_NO_BYTES, 0, out, SIZE);
+    exchange("an algorithm that was not offered", out, written, &shorter, WAITS, &pool);
 
     must(ntske_write_record(&unknown, NTSKE_NO_BYTES, 0, out, SIZE, &first) == NTSKE_OK);
-    must(ntske_write_request(protocols, 1, algorithms, 2, NTSKE_NO_BYTES, 0, 0, out + first, SIZE - first, &written) == NTSKE_OK);
-    exchange("an unknown record with its critical bit set", out, first + written, WAITS);
+    written = ask(&both, NTSKE_NO_BYTES, 0, out + first, SIZE - first);
+    exchange("an unknown record with its critical bit set", out, first + written, &both, WAITS, NULL);
 
     /* what the writers refuse */
     must(ntske_plan_new(NTSKE_NTPV4, NTSKE_AES_SIV_CMAC_256, &plan) == NTSKE_OK);

@@ -4,12 +4,12 @@
 //!     ./archive && cargo run --manifest-path bindings/rust/Cargo.toml --example host [-- BYTES]
 //!
 //! A message is read as it comes: a side hands over what it takes off its socket, at most so many BYTES at once, until there is an answer. Of a request
-//! that it refuses the server logs which records it held.
+//! that it refuses the server logs which records it held. The client reads a reply with what it offered, so that one which names anything else is refused.
 
 use ntske::{
     choose, choose_protocol, write_error, write_no_algorithm, write_no_protocol, write_request,
-    AeadAlgorithm, Connection, Denied, ErrorCode, Fed, List, Message, Name, Names, NextProtocol,
-    Plan, Record, Refused, Request, Tray,
+    AeadAlgorithm, Chosen, Connection, Denied, ErrorCode, Fed, List, Message, Name, Names,
+    NextProtocol, Offered, Plan, Record, Refused, Request, Tray,
 };
 use std::io::{Read, Write};
 use std::net::Shutdown;
@@ -21,11 +21,12 @@ const SIZE: usize = 4096;
 const LIMIT: u16 = 4096;
 const ENTRIES: usize = 16;
 
-/// The reply to a key-exchange request.
+/// The reply to a key-exchange request. Where a choice is given, it is taken whatever the client offers.
 fn answer_request<'o>(
     protocols: List<NextProtocol>,
     algorithms: List<AeadAlgorithm>,
     denied: Denied,
+    given: Option<Chosen>,
     out: &'o mut [u8],
 ) -> Outcome<&'o mut [u8]> {
     let (own_protocols, own_algorithms) =
@@ -44,7 +45,11 @@ fn answer_request<'o>(
     }
     println!();
 
-    let chosen = match choose(protocols, algorithms, &own_protocols, &own_algorithms) {
+    let choice = match given {
+        Some(chosen) => Ok(chosen),
+        None => choose(protocols, algorithms, &own_protocols, &own_algorithms),
+    };
+    let chosen = match choice {
         Ok(chosen) => chosen,
         Err(why) => {
             println!("server: refused {}: {why}", why.number());
@@ -74,7 +79,7 @@ fn log_request(message: Message) {
     }
 }
 
-fn server(stream: &mut UnixStream, piece: &mut [u8]) -> Outcome<()> {
+fn server(stream: &mut UnixStream, piece: &mut [u8], given: Option<Chosen>) -> Outcome<()> {
     let (mut buffer, mut out, mut table) = ([0; SIZE], [0; SIZE], [0; 2 * ENTRIES]);
     let mut line = Connection::start(LIMIT);
     let request = loop {
@@ -93,7 +98,7 @@ fn server(stream: &mut UnixStream, piece: &mut [u8]) -> Outcome<()> {
             protocols,
             algorithms,
             denied,
-        }) => answer_request(protocols, algorithms, denied, &mut out)?,
+        }) => answer_request(protocols, algorithms, denied, given, &mut out)?,
         Ok(_) => {
             println!("server: no key exchange");
             write_error(ErrorCode::BAD_REQUEST, &mut out)?
@@ -108,15 +113,15 @@ fn server(stream: &mut UnixStream, piece: &mut [u8]) -> Outcome<()> {
     Ok(stream.shutdown(Shutdown::Write)?)
 }
 
-fn client(stream: &mut UnixStream, piece: &mut [u8]) -> Outcome<()> {
+fn client(stream: &mut UnixStream, piece: &mut [u8], offered: Offered) -> Outcome<()> {
     let (mut buffer, mut table) = ([0; SIZE], [0; 2 * ENTRIES]);
     let mut line = Connection::start(LIMIT);
     let reply = loop {
         let len = stream.read(piece)?;
         if len == 0 {
-            break line.close_reply(&mut buffer, &mut table);
+            break line.close_reply(offered, &mut buffer, &mut table);
         }
-        match line.feed_reply(&piece[..len], &mut buffer, &mut table) {
+        match line.feed_reply(&piece[..len], offered, &mut buffer, &mut table) {
             Ok(Fed::Waiting) => {}
             Ok(Fed::Accepted(reply)) => break Ok(reply),
             Err(refusal) => break Err(refusal),
@@ -158,9 +163,16 @@ enum Then {
     Closes,
 }
 
-/// One exchange: what the client sends, what the server makes of it, and what the client makes of the reply. Each takes as many bytes off its socket
-/// at once as a piece has room for.
-fn exchange(title: &str, request: &[u8], then: Then, piece: &mut [u8]) -> Outcome<()> {
+/// One exchange: what the client sends and offers by it, what the server makes of it, and what the client makes of the reply. Each takes as many bytes off
+/// its socket at once as a piece has room for.
+fn exchange(
+    title: &str,
+    request: &[u8],
+    offered: Offered,
+    then: Then,
+    given: Option<Chosen>,
+    piece: &mut [u8],
+) -> Outcome<()> {
     let (mut ours, mut theirs) = UnixStream::pair()?;
     println!("== {title}");
     println!("client: sends {} bytes", request.len());
@@ -168,8 +180,13 @@ fn exchange(title: &str, request: &[u8], then: Then, piece: &mut [u8]) -> Outcom
     if then == Then::Closes {
         ours.shutdown(Shutdown::Write)?;
     }
-    server(&mut theirs, piece)?;
-    client(&mut ours, piece)
+    server(&mut theirs, piece, given)?;
+    client(&mut ours, piece, offered)
+}
+
+/// The request by which a client offers this and denies those names.
+fn ask<'o>(offered: Offered, denied: &Names, out: &'o mut [u8]) -> Result<&'o mut [u8], Refused> {
+    write_request(offered.protocols, offered.algorithms, denied, out)
 }
 
 fn main() -> Outcome<()> {
@@ -178,6 +195,21 @@ fn main() -> Outcome<()> {
         AeadAlgorithm::AES_SIV_CMAC_512,
         AeadAlgorithm::AES_SIV_CMAC_256,
     ];
+    // both algorithms, and each by itself
+    let offered = |algorithms| Offered {
+        protocols: &protocols,
+        algorithms,
+    };
+    let (both, longer, shorter) = (
+        offered(&algorithms),
+        offered(&algorithms[..1]),
+        offered(&algorithms[1..]),
+    );
+    // what a machine of a pool answers, whatever it is asked
+    let pool = Chosen {
+        protocol: NextProtocol::NTPV4,
+        algorithm: AeadAlgorithm::AES_SIV_CMAC_512,
+    };
     let (mut out, mut buffer, mut other) = ([0; SIZE], [0; 64], [0; 64]);
     let nobody = Names::new(&mut []);
     let most = std::env::args()
@@ -187,18 +219,28 @@ fn main() -> Outcome<()> {
 
     let mut denied = Names::new(&mut buffer);
     denied.append(Name::new("old.example"))?;
-    let request = write_request(&protocols, &algorithms, &denied, &mut out)?;
-    exchange("a key exchange", request, Then::Waits, piece)?;
+    let request = ask(both, &denied, &mut out)?;
+    exchange("a key exchange", request, both, Then::Waits, None, piece)?;
 
-    exchange("a request that is cut", &request[..10], Then::Closes, piece)?;
+    let cut = &request[..10];
+    exchange(
+        "a request that is cut",
+        cut,
+        both,
+        Then::Closes,
+        None,
+        piece,
+    )?;
 
     let mut denied = Names::new(&mut other);
     denied.append(Name::new("\u{e9}"))?;
-    let request = write_request(&protocols, &algorithms[1..], &denied, &mut out)?;
+    let request = ask(shorter, &denied, &mut out)?;
     exchange(
         "a name of one character in two bytes",
         request,
+        shorter,
         Then::Waits,
+        None,
         piece,
     )?;
 
@@ -209,12 +251,31 @@ fn main() -> Outcome<()> {
     exchange(
         "a record that is ill-formed",
         &ill_formed,
+        shorter,
         Then::Waits,
+        None,
         piece,
     )?;
 
-    let request = write_request(&protocols, &algorithms[..1], &nobody, &mut out)?;
-    exchange("no algorithm in common", request, Then::Waits, piece)?;
+    let request = ask(longer, &nobody, &mut out)?;
+    exchange(
+        "no algorithm in common",
+        request,
+        longer,
+        Then::Waits,
+        None,
+        piece,
+    )?;
+
+    let request = ask(shorter, &nobody, &mut out)?;
+    exchange(
+        "an algorithm that was not offered",
+        request,
+        shorter,
+        Then::Waits,
+        Some(pool),
+        piece,
+    )?;
 
     let first = Record::Unknown {
         kind: 16385,
@@ -223,11 +284,13 @@ fn main() -> Outcome<()> {
     }
     .write(&mut out)?
     .len();
-    let rest = write_request(&protocols, &algorithms, &nobody, &mut out[first..])?.len();
+    let rest = ask(both, &nobody, &mut out[first..])?.len();
     exchange(
         "an unknown record with its critical bit set",
         &out[..first + rest],
+        both,
         Then::Waits,
+        None,
         piece,
     )?;
 
@@ -243,7 +306,7 @@ fn main() -> Outcome<()> {
             why.number()
         );
     }
-    if let Err(why) = write_request(&protocols, &algorithms, &nobody, &mut out[..17]) {
+    if let Err(why) = ask(both, &nobody, &mut out[..17]) {
         println!(
             "== a request of 18 bytes into 17\nclient: refused {}: {why}",
             why.number()

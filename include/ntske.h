@@ -25,13 +25,14 @@
  *         ntske_write_reply(&plan, tray, TRAY_LEN, NTSKE_NO_BYTES, 0, out, OUT_LEN, &written);
  *     }
  *
- * A client:
+ * A client, which reads the reply with the two lists that it offered:
  *
  *     ntske_write_request(protocols, 1, algorithms, 2, NTSKE_NO_BYTES, 0, 0, out, OUT_LEN,
  *                         &written);
  *     ..                                       (send it, and take the whole reply)
  *     struct ntske_reply reply;
- *     answer = ntske_read_reply(message, len, NTSKE_LIMIT, table, TABLE_LEN, &reply);
+ *     answer = ntske_read_reply(message, len, NTSKE_LIMIT, protocols, 1, algorithms, 2, table,
+ *                               TABLE_LEN, &reply);
  *     if (answer != NTSKE_OK)
  *         printf("refused %u at %lu: %s\n", ntske_refusal(answer), ntske_place(answer),
  *                ntske_words(answer));
@@ -45,14 +46,20 @@
  * README.md has both as programs, and examples/host.c is a whole host.
  *
  * What a call returns. Every call ends with an answer for every value of its arguments. It returns
- * NTSKE_OK, or one word with the refusal's number in bits 0 to 15, the number beside it in bits 16
- * to 31 (5, 11 and 12 have one) and its place in bits 32 to 63 (those of ntske_read_request,
- * ntske_read_reply and ntske_decide_request and of the calls that feed or close have one):
- * ntske_refusal, ntske_beside and ntske_place take it apart, ntske_words says it in words. A call
- * that is refused changes nothing that was lent to it: no struct, no count, no table, no tray, no
- * output; of a read in pieces alone the buffer and the connection may change. ntske_feed_request
- * and ntske_feed_reply may also return NTSKE_WAITING, which is neither NTSKE_OK nor a refusal.
- * ntske_is_utf8 and ntske_version refuse nothing and return their answer.
+ * NTSKE_OK, or one word that is taken apart by functions and said in words by ntske_words:
+ *
+ *     bits  0 to  7   the refusal's number                                     ntske_refusal
+ *     bits  8 to 15   what was not offered, of 17 alone: 1 a protocol,         ntske_beside_sort
+ *                     2 an algorithm; otherwise 0
+ *     bits 16 to 31   the number beside it: 5, 11, 12 and 17 have one          ntske_beside
+ *     bits 32 to 63   its place: those of ntske_read_request,                  ntske_place
+ *                     ntske_read_reply and ntske_decide_request and of the
+ *                     calls that feed or close have one
+ *
+ * A call that is refused changes nothing that was lent to it: no struct, no count, no table, no
+ * tray, no output; of a read in pieces alone the buffer and the connection may change.
+ * ntske_feed_request and ntske_feed_reply may also return NTSKE_WAITING, which is neither NTSKE_OK
+ * nor a refusal. ntske_is_utf8 and ntske_version refuse nothing and return their answer.
  *
  * What the host owes, since the compiler cannot see it: a pointer is not NULL and is aligned for
  * what it points to, also where the length behind it is 0 (NTSKE_NO_BYTES and NTSKE_NO_NUMBERS are
@@ -77,8 +84,8 @@ extern "C" {
 
 /* ---- numbers --------------------------------------------------------------------------------- */
 
-/* This header's version, 0.2.0, a byte for each number. ntske_version tells the archive's. */
-#define NTSKE_VERSION 0x000200
+/* This header's version, 0.3.0, a byte for each number. ntske_version tells the archive's. */
+#define NTSKE_VERSION 0x000300
 
 /* TLS (RFC 8915, section 4): the application protocol's name (ALPN), and the port. */
 #define NTSKE_ALPN "ntske/1"
@@ -125,7 +132,16 @@ enum ntske_refusals {
     NTSKE_NO_OVERLAPPING_PROTOCOL = 13,
     NTSKE_NO_OVERLAPPING_ALGORITHM = 14,
     NTSKE_NO_COOKIE = 15,
-    NTSKE_BUFFER_FULL = 16
+    NTSKE_BUFFER_FULL = 16,
+    NTSKE_NOT_OFFERED = 17
+};
+
+/* What the number beside a refusal is: see ntske_beside_sort. */
+enum ntske_beside_sorts {
+    NTSKE_BESIDE_NONE = 0,
+    NTSKE_BESIDE_PROTOCOL = 1,
+    NTSKE_BESIDE_ALGORITHM = 2,
+    NTSKE_BESIDE_CODE = 3
 };
 
 /* Kinds of records: RFC 8915, section 4.1, and from 8 on those that the library knows besides. */
@@ -317,10 +333,12 @@ struct ntske_plan {
 /*
  * A read in pieces, one for each line; made by ntske_connection_new. It is the host's to keep and
  * to copy, and only the library changes it: it is lent to the next call as the last one left it.
+ * Of 17, `number` is 273 where a protocol and 529 where an algorithm was not offered.
  * One that is made or changed by hand is judged: 9 where `limit` or `met` is above 65,535, `state`
- * above 2, `number` (of state 2) none of 1 to 16, `beside` above 65,535 or not 0 where that number
- * has none, `place` above 4,294,967,295, or one of these three not 0 in another state. Any other
- * numbers have a determined answer.
+ * above 2, `number` (of state 2) none of 1 to 16, 273 and 529, `beside` above 65,535 or not 0 where
+ * that number has none, `place` above 4,294,967,295, or one of these three not 0 in another state.
+ * Any other numbers have a determined answer. In state 1 that is what the bytes gathered say to one
+ * who offered what they name: the lists that are lent then are not asked.
  */
 struct ntske_connection {
     size_t limit;                     /* after how many bytes the message is cut */
@@ -328,9 +346,9 @@ struct ntske_connection {
     size_t begins;                    /* where the record that is being gathered begins */
     size_t met;                       /* the kinds before it, a bit each; 11 for unknown ones */
     size_t state;                     /* 0: no answer yet; 1: accepted; 2: refused */
-    size_t number;                    /* of a refusal; otherwise these three are 0 */
-    size_t beside;
-    size_t place;
+    size_t number;                    /* of a refusal, bits 0 to 15 of its word; otherwise 0 */
+    size_t beside;                    /* of a refusal; otherwise 0 */
+    size_t place;                     /* likewise */
 };
 
 #define NTSKE_CELL(type, field, i) \
@@ -418,13 +436,35 @@ NTSKE_CELL16(ntske_finding, found, 3);
 /* ---- what a call returned -------------------------------------------------------------------- */
 
 /* The refusal's number, and 0 for none. NTSKE_WAITING is to be told apart before. */
-static inline unsigned ntske_refusal(uint64_t answer) { return (unsigned)(answer & 0xFFFF); }
+static inline unsigned ntske_refusal(uint64_t answer) { return (unsigned)(answer & 0xFF); }
 
-/* Whether a number is beside it: the algorithm of 5, the code of 11 and 12. */
+/*
+ * What the number beside it is: of 5 an algorithm, of 11 and 12 a code, and of 17 the protocol or
+ * the algorithm that was not offered, which the word tells apart. NTSKE_BESIDE_NONE of all others,
+ * and of a 17 that does not tell it, which no call returns.
+ */
+static inline enum ntske_beside_sorts ntske_beside_sort(uint64_t answer)
+{
+    unsigned sort = (unsigned)(answer >> 8 & 0xFF);
+    switch (ntske_refusal(answer)) {
+    case NTSKE_AEAD_NOT_SUPPORTED:
+        return NTSKE_BESIDE_ALGORITHM;
+    case NTSKE_ERROR:
+    case NTSKE_UNKNOWN_WARNING:
+        return NTSKE_BESIDE_CODE;
+    case NTSKE_NOT_OFFERED:
+        if (sort == NTSKE_BESIDE_PROTOCOL)
+            return NTSKE_BESIDE_PROTOCOL;
+        return sort == NTSKE_BESIDE_ALGORITHM ? NTSKE_BESIDE_ALGORITHM : NTSKE_BESIDE_NONE;
+    default:
+        return NTSKE_BESIDE_NONE;
+    }
+}
+
+/* Whether a number is beside it. */
 static inline int ntske_has_beside(uint64_t answer)
 {
-    unsigned n = ntske_refusal(answer);
-    return n == NTSKE_AEAD_NOT_SUPPORTED || n == NTSKE_ERROR || n == NTSKE_UNKNOWN_WARNING;
+    return ntske_beside_sort(answer) != NTSKE_BESIDE_NONE;
 }
 
 /* That number, and 0 for none. */
@@ -437,7 +477,10 @@ static inline unsigned ntske_beside(uint64_t answer) { return (unsigned)(answer 
  */
 static inline unsigned long ntske_place(uint64_t answer) { return (unsigned long)(answer >> 32); }
 
-/* What a call returned, in words, without the number beside it and the place. */
+/*
+ * What a call returned, in words, without the number beside it and the place. Of 17 they tell
+ * whether it is the protocol or the algorithm.
+ */
 static inline const char *ntske_words(uint64_t answer)
 {
     static const char *const words[] = {
@@ -458,10 +501,17 @@ static inline const char *ntske_words(uint64_t answer)
         "no algorithm in common",
         "no cookie",
         "the buffer has no room for a byte that the read needs",
+        "the reply names what was not offered",
+    };
+    static const char *const not_offered[] = {
+        "the reply's protocol was not offered",
+        "the reply's algorithm was not offered",
     };
     unsigned n = ntske_refusal(answer);
     if (answer == NTSKE_WAITING)
         return "the read waits for more bytes";
+    if (n == NTSKE_NOT_OFFERED && ntske_has_beside(answer))
+        return not_offered[ntske_beside_sort(answer) == NTSKE_BESIDE_ALGORITHM];
     return n < sizeof words / sizeof *words ? words[n] : "a refusal that this header does not know";
 }
 
@@ -524,11 +574,18 @@ uint64_t ntske_read_request(const uint8_t *message, size_t message_len, uint16_t
                             uint16_t *table, size_t table_len, struct ntske_request *answer);
 
 /*
- * A reply to a key-exchange request; its cookies go into the table. Refusals: 1 to 4, 7 for more
- * cookies than the table has pairs of cells, and 11 to 15, at a place.
+ * A reply to a key-exchange request; its cookies go into the table. `protocols` and `algorithms`
+ * are what the client offered in its request, in any order; a list may have a number twice, or be
+ * empty, and then every number is 17. Refusals: 1 to 4, 7 for more cookies than the table has pairs
+ * of cells, 11 to 15, and 17 for a protocol or an algorithm that is not among those offered, at a
+ * place. What is decided after the end record, in this order: 4 without a list of protocols; 13 for
+ * an empty one; 4 without a list of algorithms; 14 for an empty one; 17 for the protocol; 17 for
+ * the algorithm; 15; 7.
  */
 uint64_t ntske_read_reply(const uint8_t *message, size_t message_len, uint16_t limit,
-                          uint16_t *table, size_t table_len, struct ntske_reply *answer);
+                          const uint16_t *protocols, size_t protocols_len,
+                          const uint16_t *algorithms, size_t algorithms_len, uint16_t *table,
+                          size_t table_len, struct ntske_reply *answer);
 
 /*
  * The record at a place of a message, which has no limit but its length. Refusals: 1 and 2, at the
@@ -607,20 +664,22 @@ uint64_t ntske_decide_request(const struct ntske_finding *finding, const uint8_t
  *
  * The host keeps a connection and a buffer for each line, and lends both to the next call as the
  * last one left them; the table and the piece may be others each time. A piece may have any length,
- * 0 too, and need not be kept: what is needed of it is copied behind what the buffer holds.
+ * 0 too, and need not be kept: what is needed of it is copied behind what the buffer holds. The
+ * calls of a reply are lent what the client offered, too; only the call which answers looks at it.
  *
  * A record is judged when it stands whole, or when the limit or the close cuts it, and not before.
  * Until one decides, a call returns NTSKE_WAITING. The answer, unless it is 16, is that of
- * ntske_read_request or ntske_read_reply on all pieces joined, with the table that is lent to the
- * call which answers; its parts lie in the buffer. Where it is accepted, the message is the first
- * `gathered` bytes of the buffer, which are the joined bytes through the end record.
+ * ntske_read_request or ntske_read_reply on all pieces joined, with the table and the offered lists
+ * that are lent to the call which answers; its parts lie in the buffer. Where it is accepted, the
+ * message is the first `gathered` bytes of the buffer, which are the joined bytes through the end
+ * record.
  *
  * A call that feeds or closes may change buffer and connection also where it waits or is refused.
  * The buffer then begins with the joined bytes, through the record that decides or until it is
  * full, and no byte behind them changes. The table and `answer` change only where a call is
  * accepted. Once there is an answer, every later call gives it again and changes nothing but
  * `answer`: an accepted one whatever the table is that is lent then, which it does not fill again;
- * a refusal also where a larger table or buffer is lent.
+ * a refusal also where a larger table or buffer is lent; and either whatever lists are lent.
  *
  * Besides those of the reader there are two refusals. 16: a byte has come that the read needs, and
  * the buffer has no room for it; its place is that byte's, the buffer's length. With a buffer as
@@ -643,11 +702,18 @@ uint64_t ntske_close_request(struct ntske_connection *connection, uint8_t *buffe
                              size_t buffer_len, uint16_t *table, size_t table_len,
                              struct ntske_request *answer);
 
-/* The same of a reply. Refusals: 9, 1 to 4, 7, 11 to 15 and 16; and the one that it holds. */
+/*
+ * The same of a reply, with what the client offered. Refusals: 9 (its place is 0), 1 to 4, 7, 11 to
+ * 17, at a place; and the one that the connection holds.
+ */
 uint64_t ntske_feed_reply(struct ntske_connection *connection, const uint8_t *piece,
-                          size_t piece_len, uint8_t *buffer, size_t buffer_len, uint16_t *table,
-                          size_t table_len, struct ntske_reply *answer);
-uint64_t ntske_close_reply(struct ntske_connection *connection, uint8_t *buffer, size_t buffer_len,
+                          size_t piece_len, const uint16_t *protocols, size_t protocols_len,
+                          const uint16_t *algorithms, size_t algorithms_len, uint8_t *buffer,
+                          size_t buffer_len, uint16_t *table, size_t table_len,
+                          struct ntske_reply *answer);
+uint64_t ntske_close_reply(struct ntske_connection *connection, const uint16_t *protocols,
+                           size_t protocols_len, const uint16_t *algorithms,
+                           size_t algorithms_len, uint8_t *buffer, size_t buffer_len,
                            uint16_t *table, size_t table_len, struct ntske_reply *answer);
 
 /* ---- handing out ------------------------------------------------------------------------------

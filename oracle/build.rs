@@ -1,7 +1,8 @@
 //! Makes the stand-in for the crate's module `nts`: the needed items of its mod.rs, cut out by line number, and its
 //! files record.rs and messages.rs, which are compiled where they stand. Beside them two copies of messages.rs: one in
-//! which one constant is raised, and one in which, besides, the reader of replies is document 01's by four edits. The lines
-//! of mod.rs with which the server chooses become the bodies of two functions: as they stand, and document 01's by one edit.
+//! which one constant is raised, and one in which, besides, the reader of replies is document 01's as order 3 corrects it, by
+//! five edits. The lines of mod.rs with which the server chooses become the bodies of two functions: as they stand, and
+//! document 01's by one edit.
 
 use std::{env, fs, path::PathBuf};
 
@@ -34,8 +35,9 @@ const RAISED_LIMIT: Edit = ("const MAX_MESSAGE_SIZE: u64 = 4096;", "const MAX_ME
 /// The lines of messages.rs between which its reader of replies stands.
 const REPLY_READER: [&str; 2] = ["impl KeyExchangeResponse<'_> {\n", "    pub async fn serialize(\n"];
 
-/// What makes that reader document 01's: four differences, each taken away by the edits below its name.
-const EDITS: [Edit; 9] = [
+/// What makes that reader document 01's, as order 3 corrects it: five differences, each taken away by the replacements below
+/// its name.
+const EDITS: [Edit; 11] = [
     // An empty list is refused after the end record.
     ("None => return Err(NtsError::NoOverlappingProtocol),", "None => protocol = Some(None),"),
     ("Some((&id, [])) => protocol = Some(id),", "Some((&id, [])) => protocol = Some(Some(id)),"),
@@ -57,6 +59,22 @@ const EDITS: [Edit; 9] = [
                 return Err(NtsError::NoCookie);
             }
             Ok(KeyExchangeResponse {\n",
+    ),
+    // A number that was not offered is refused, after an empty list and before a missing cookie. Of the crate's errors with a
+    // number the one that is given is no other refusal of this reader's.
+    (
+        "parse(reader: impl AsyncRead + Unpin) -> Result<Self, NtsError> {",
+        "parse(reader: impl AsyncRead + Unpin, offered: &super::offered::Offered) -> Result<Self, NtsError> {",
+    ),
+    (
+        "        if let (Some(protocol), Some(algorithm)) = (protocol, algorithm) {\n",
+        "        if let (Some(protocol), Some(algorithm)) = (protocol, algorithm) {
+            if !offered.protocols.contains(&protocol) {
+                return Err(NtsError::AeadNotSupported(protocol.into()));
+            }
+            if !offered.algorithms.contains(&algorithm) {
+                return Err(NtsError::AeadNotSupported(algorithm.into()));
+            }\n",
     ),
     // Every cookie is kept.
     ("if cookies.len() < DEFAULT_NUMBER_OF_COOKIES {", "if cookies.len() < usize::MAX {"),
@@ -129,7 +147,8 @@ fn choosing(name: &str, lines: &str) -> String {
     )
 }
 
-/// A text of messages.rs in which the reader of replies is document 01's, and nothing else is changed.
+/// A text of messages.rs in which the reader of replies is document 01's, as order 3 corrects it, and nothing else is
+/// changed.
 fn with_document_01s_reader(text: &str) -> String {
     let [first, last] = REPLY_READER;
     assert_eq!(text.matches(first).count(), 1, "nts/messages.rs: {first}");

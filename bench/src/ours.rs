@@ -1,8 +1,13 @@
 //! The library's calls, by the package bindings/rust: its layer of one function a call, over slices and arrays.
 
 use ntske::raw::{self, ConnectionCells, Count, FindingCells, PlanCells, ReadCells, ReplyCells, RequestCells};
+use ntske::{AeadAlgorithm, NextProtocol};
 
 const LARGEST_LIMIT: u16 = ntske::LIMIT;
+
+/// What the client offered whose reply is read: one protocol and two algorithms, of which the reply has the last.
+const PROTOCOLS: [NextProtocol; 1] = [NextProtocol::NTPV4];
+const ALGORITHMS: [AeadAlgorithm; 2] = [AeadAlgorithm::AES_SIV_CMAC_512, AeadAlgorithm::AES_SIV_CMAC_256];
 
 /// The cells that each reader puts its answer into.
 #[derive(Default)]
@@ -50,7 +55,7 @@ pub fn feed_request(
 }
 
 pub fn read_reply(message: &[u8], table: &mut [u16], answers: &mut Answers) -> u64 {
-    raw::read_reply(message, LARGEST_LIMIT, table, &mut answers.reply)
+    raw::read_reply(message, LARGEST_LIMIT, &PROTOCOLS, &ALGORITHMS, table, &mut answers.reply)
 }
 
 /// The plan of a reply with NTPv4, algorithm 15 and the tray's cookies alone.

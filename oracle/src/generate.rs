@@ -5,6 +5,8 @@ mod choosing;
 mod findings;
 mod messages;
 mod names;
+mod offered;
+mod offers;
 mod orders;
 pub mod payloads;
 mod pieces;
@@ -48,15 +50,16 @@ pub fn corpus(name: &str, seed: u64, count: Option<u64>, out: &mut impl Write) -
         "names" => names::boundaries(out)?,
         "names3" => names::of_three(out)?,
         "random" => records::random(seed, count.unwrap_or(300_000), out)?,
-        "tokens" => tokens::up_to_three(&REQUESTS, out)?,
-        "tokens4" => tokens::of_four(&REQUESTS, out)?,
+        "tokens" => tokens::up_to_three(&REQUESTS, seed, out)?,
+        "tokens4" => tokens::of_four(&REQUESTS, seed, out)?,
         "requests" => messages::messages(&REQUESTS, seed, count.unwrap_or(300_000), out)?,
-        "reply-tokens" => tokens::up_to_three(&REPLIES, out)?,
-        "reply-tokens4" => tokens::of_four(&REPLIES, out)?,
+        "reply-tokens" => tokens::up_to_three(&REPLIES, seed, out)?,
+        "reply-tokens4" => tokens::of_four(&REPLIES, seed, out)?,
         "replies" => {
             replies::long_names(seed, out)?;
-            messages::messages(&REPLIES, seed, count.unwrap_or(2_300_000), out)?;
+            messages::messages(&REPLIES, seed, count.unwrap_or(1_950_000), out)?;
         }
+        "offered" => offered::offered(seed, out)?,
         "orders" => orders::orders(&[REQUESTS, REPLIES], seed, count.unwrap_or(20_000), out)?,
         "pieces" => pieces::pieces(&[REQUESTS, REPLIES], seed, count.unwrap_or(50_000), out)?,
         "pieces-tokens" => pieces::pieces_of_tokens(&[REQUESTS, REPLIES], seed, out)?,
@@ -90,7 +93,7 @@ pub fn placed(place: u64, bytes: &[u8]) -> Vec<u8> {
     [&place.to_be_bytes()[..], bytes].concat()
 }
 
-/// The payload of ops L and l.
+/// The payload of op L and, with the lists in front of the message, of op l.
 pub fn limited(limit: usize, cells: usize, message: &[u8]) -> Vec<u8> {
     let half = |number| u16::try_from(number).expect("a limit or a table's cells").to_be_bytes();
     [&half(limit)[..], &half(cells), message].concat()

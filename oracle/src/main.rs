@@ -23,6 +23,7 @@ mod nts {
     mod feeding;
     pub mod findings;
     pub mod lines;
+    pub mod offered;
     pub mod pieces;
     pub mod plans;
     mod poll;
@@ -30,6 +31,7 @@ mod nts {
     pub mod replies;
     mod requests;
     pub mod sending;
+    pub mod smallest;
     pub mod trays;
     mod whole;
     mod writing;
@@ -45,7 +47,8 @@ const USAGE: &str = "usage:
                                              compares two files of answers and adds to the file TALLY
   oracle total TALLY [any]                   sums up; `any` asks for no least number of cases an outcome
   oracle orders CORPUS CRATE PROBE [failed]  judges two files of answers to the corpus orders; `failed`: the probe did
-  oracle pick CORPUS INDEX                   writes that case of a corpus alone";
+  oracle pick CORPUS INDEX                   writes that case of a corpus alone
+  oracle smallest                            of the replies on standard input: the shortest for each difference from the crate";
 
 fn main() -> ExitCode {
     let args: Vec<String> = std::env::args().skip(1).collect();
@@ -74,6 +77,7 @@ fn run(args: &[&str]) -> io::Result<bool> {
         ["total", tally, "any"] => compare::total(tally, false, &mut out)?,
         ["orders", corpus, crates, probes] => orders::judge(corpus, crates, probes, false, &mut out)?,
         ["orders", corpus, crates, probes, "failed"] => orders::judge(corpus, crates, probes, true, &mut out)?,
+        ["smallest"] => nts::smallest::corpus(io::stdin().lock(), &mut out)?,
         ["pick", corpus, index] => compare::pick(corpus, number(index)?, &mut out)?,
         _ => {
             eprintln!("{USAGE}");

@@ -152,17 +152,22 @@ impl Counts {
 fn group(cases: &mut Cases<impl BufRead>) -> io::Result<Option<(&'static Originals, Messages)>> {
     let mut messages = Messages::default();
     let mut originals = None;
+    let mut lists = Vec::new();
     for (index, message) in messages.iter_mut().enumerate() {
         if !cases.advance()? {
             return if index == 0 { Ok(None) } else { Err(io::Error::other("the corpus ends between variants")) };
         }
         let of = |originals: &'static Originals| {
-            let message = originals.family.largest_message(cases.op, &cases.payload)?;
-            Some((originals, message.to_vec()))
+            let (lists, message) = originals.family.largest_message(cases.op, &cases.payload)?;
+            Some((originals, lists.to_vec(), message.to_vec()))
         };
         let found = originals.map_or_else(|| ORIGINALS.iter().find_map(of), of).filter(|_| !cases.too_long);
-        let (first, bytes) = found.ok_or_else(|| io::Error::other("the corpus has a case of another op"))?;
+        let (first, offered, bytes) = found.ok_or_else(|| io::Error::other("the corpus has a case of another op"))?;
+        if index > 0 && offered != lists {
+            return Err(io::Error::other("the corpus has a variant with other lists than its original's"));
+        }
         originals = Some(first);
+        lists = offered;
         *message = bytes;
     }
     Ok(originals.map(|originals| (originals, messages)))

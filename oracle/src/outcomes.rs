@@ -7,25 +7,30 @@ use crate::nts::choosing::{self, NOT_THE_CRATES, NOT_THE_SERVERS, ODD_ALGORITHMS
 use crate::nts::findings::{self, ANOTHER_LIMIT, ITS_OWN_BYTES, NUMBERS, OTHER_BYTES, OTHER_COUNTS, OTHER_LENGTHS};
 use crate::nts::findings::{OTHER_PLACE, OTHER_REASON, OTHER_STARTS, THE_OTHERS_NUMBER, THE_SAME_NUMBER};
 use crate::nts::lines::DISAGREES;
+use crate::nts::offered::{ALONE, BETWEEN, FIRST, LAST, NOT, NOT_HERE, NOTHING as NOTHING_OFFERED, TWICE};
 use crate::nts::pieces::{self, A_FULL_BUFFER, A_RECORD, NOTHING, THE_CLOSE, THE_LIMIT};
 use crate::nts::plans::{self, NOT_PLANNED, NOT_UTF8, OTHER_LENGTH};
-use crate::nts::replies::{self, AUTHENTICATION, EMPTY_LIST, MANY_COOKIES, NO_COOKIE};
+use crate::nts::replies::{self, AUTHENTICATION, Compared, EMPTY_LIST, MANY_COOKIES, NO_COOKIE, NOT_OFFERED};
 use crate::nts::sending;
 use crate::nts::trays::{self, BEYOND, CUT, MANY_FIELDS, OTHER_TAG};
 
 /// The outcomes that can occur, by what the ops do.
-pub const FAMILIES: [(&str, &[&[&str]]); 32] = [
+pub const FAMILIES: [(&str, &[&[&str]]); 36] = [
     ("read", &[&KINDS, &["refused 1", "refused 2"]]),
     ("write", &[&KINDS, &["a part", "refused 8", "refused 10"], &NO_RECORD]),
     ("measure", &[&KINDS, &["refused 8", "refused 9"]]),
     ("request", &[&REQUESTS]),
     ("reply", &[&REPLIES, &READ_BY]),
-    ("reply by the copy, for", &[&[EMPTY_LIST, AUTHENTICATION, NO_COOKIE, MANY_COOKIES]]),
+    ("reply by the copy, for", &[&DIFFERENCES]),
+    ("reply with its protocol offered", &[&OFFERED]),
+    ("reply with its algorithm offered", &[&OFFERED]),
     ("fed request", &[&REQUESTS, &FED]),
     ("fed request ended by", &[&ENDED_BY]),
     ("fed reply", &[&REPLIES, &FED, &READ_BY]),
     ("fed reply ended by", &[&ENDED_BY]),
-    ("fed reply by the copy, for", &[&[EMPTY_LIST, AUTHENTICATION, NO_COOKIE, MANY_COOKIES]]),
+    ("fed reply by the copy, for", &[&DIFFERENCES]),
+    ("fed reply with its protocol offered", &[&OFFERED]),
+    ("fed reply with its algorithm offered", &[&OFFERED]),
     ("finding", &[&["ended", "refused 1", "refused 2", "refused 3", "refused 4"], &[UNDER_THE_CRATES_LIMIT]]),
     ("finding with", &[&COUNTED]),
     ("finding with more than one of", &[&COUNTED_TWICE]),
@@ -63,7 +68,7 @@ const REQUESTS: [&str; 11] = [
     "refused 6",
     "refused 7",
 ];
-const REPLIES: [&str; 18] = [
+const REPLIES: [&str; 19] = [
     "accepted",
     "accepted with server",
     "accepted with port",
@@ -82,6 +87,7 @@ const REPLIES: [&str; 18] = [
     "refused 13",
     "refused 14",
     "refused 15",
+    "refused 17",
 ];
 /// What only a read that is fed in pieces can tell. Of those with an answer: under the crate's own limit, and those to which
 /// the crate's reader gives it before the record stands whole.
@@ -99,7 +105,12 @@ const LET_IN: [&str; 5] = [ITS_OWN_BYTES, OTHER_BYTES, THE_SAME_NUMBER, ANOTHER_
 const OF_OTHER_BYTES: [&str; 5] = [OTHER_COUNTS, OTHER_PLACE, OTHER_REASON, OTHER_STARTS, OTHER_LENGTHS];
 /// Whose line a reply's is: that of the crate's reader as it stands, which the edited copy's is then as well, or the edited
 /// copy's alone.
-const READ_BY: [&str; 2] = ["as the crate reads it", "by the copy with 01's four edits"];
+const READ_BY: [&str; 2] = ["as the crate reads it", "by the copy with the five edits"];
+/// What the copy's line is alone for.
+const DIFFERENCES: [&str; 5] = [EMPTY_LIST, AUTHENTICATION, NOT_OFFERED, NO_COOKIE, MANY_COOKIES];
+/// How the lists hold what a reply names, where that is asked: after the end, and of the algorithm where the protocol was
+/// offered.
+const OFFERED: [&str; 8] = [ALONE, FIRST, BETWEEN, LAST, TWICE, NOT, NOT_HERE, NOTHING_OFFERED];
 /// Whose choice it is, likewise.
 const CHOSEN_BY: [&str; 2] = ["as the crate chooses", "by the copy with one edit"];
 /// A message of which nothing can be wrong but the room.
@@ -157,18 +168,38 @@ pub fn count(counts: &mut BTreeMap<String, u64>, op: u8, payload: &[u8], line: &
         _ => {}
     }
     let outcome = outcome(op, payload, line);
-    let (family, by, difference) = match op {
-        b'g' => ("choice", CHOSEN_BY, choosing::difference_of(payload)),
-        _ => ("reply", READ_BY, replies::difference_of(op, payload)),
-    };
-    let difference = difference.filter(|_| outcome.split(' ').next() == Some(family));
-    let mut add = |outcome| *counts.entry(outcome).or_default() += 1;
-    add(outcome);
-    if let Some(difference) = difference {
-        add(format!("{family} {}", by[usize::from(difference.is_some())]));
-        if let Some(difference) = difference {
-            add(format!("{family} by the copy, for {difference}"));
+    let family = outcome.split(' ').next().unwrap_or_default().to_owned();
+    *counts.entry(outcome).or_default() += 1;
+    match (op, &family[..]) {
+        (b'g', "choice") => {
+            if let Some(difference) = choosing::difference_of(payload) {
+                count_compared(counts, &family, CHOSEN_BY, difference);
+            }
         }
+        (_, "reply") => count_reply(counts, &family, op, payload),
+        _ => {}
+    }
+}
+
+/// Adds a reply to the counts of what it was compared with and of how the lists hold what it names.
+fn count_reply(counts: &mut BTreeMap<String, u64>, family: &str, op: u8, payload: &[u8]) {
+    let Some(Compared { difference, offered }) = replies::compared(op, payload) else { return };
+    count_compared(counts, family, READ_BY, difference);
+    if let Some((protocol, algorithm)) = offered {
+        let mut add = |outcome| *counts.entry(outcome).or_default() += 1;
+        add(format!("{family} with its protocol offered {protocol}"));
+        if let Some(algorithm) = algorithm {
+            add(format!("{family} with its algorithm offered {algorithm}"));
+        }
+    }
+}
+
+/// Adds a case to the counts of what it was compared with.
+fn count_compared(counts: &mut BTreeMap<String, u64>, family: &str, by: [&str; 2], difference: Option<&str>) {
+    let mut add = |outcome| *counts.entry(outcome).or_default() += 1;
+    add(format!("{family} {}", by[usize::from(difference.is_some())]));
+    if let Some(difference) = difference {
+        add(format!("{family} by the copy, for {difference}"));
     }
 }
 
@@ -193,11 +224,8 @@ fn count_fed(counts: &mut BTreeMap<String, u64>, op: u8, payload: &[u8], line: &
         if ended.judged_early {
             add(format!("fed {family} {JUDGED_EARLY}"));
         }
-        if let Some(difference) = replies::difference_of(op, payload) {
-            add(format!("fed {family} {}", READ_BY[usize::from(difference.is_some())]));
-            if let Some(difference) = difference {
-                add(format!("fed {family} by the copy, for {difference}"));
-            }
+        if op == b'F' {
+            count_reply(counts, "fed reply", op, payload);
         }
     }
 }

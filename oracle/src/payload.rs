@@ -84,12 +84,23 @@ impl<'a> Payload<'a> {
 
     /// A two-byte count and that many numbers.
     pub fn numbers<T: From<u16>>(&mut self) -> Option<Vec<T>> {
-        let (numbers, _) = self.cells()?.as_chunks();
-        Some(numbers.iter().map(|&number| u16::from_be_bytes(number).into()).collect())
+        Some(numbers(self.cells()?))
+    }
+
+    /// A one-byte count and that many numbers.
+    pub fn listed<T: From<u16>>(&mut self) -> Option<Vec<T>> {
+        let count = usize::from(self.byte()?);
+        Some(numbers(self.bytes(2 * count)?))
     }
 
     /// Whether nothing is left over.
     pub fn end(&self) -> Option<()> {
         self.0.is_empty().then_some(())
     }
+}
+
+/// The numbers of so many bytes.
+fn numbers<T: From<u16>>(bytes: &[u8]) -> Vec<T> {
+    let (numbers, _) = bytes.as_chunks();
+    numbers.iter().map(|&number| u16::from_be_bytes(number).into()).collect()
 }

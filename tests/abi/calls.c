@@ -1,9 +1,9 @@
 /*
  * Calls every function of include/ntske.h on good and bad input, and looks at what is returned and at every byte that was lent: what is answered, what is
  * written, and that all else is as it was; on every refusal all is as it was, but for buffer and connection of a read in pieces. Each writer is called with
- * an output that is too short, just long enough and longer; each message that is fed is cut at every place; of a finding each number is changed. All is run
- * twice: with guard bytes around each buffer, and with each buffer at the end of a page that no page follows. The expected bytes are worked out by hand from
- * document 01. The last line is 'N checks, M failed'; the status is 0 only for M = 0.
+ * an output that is too short, just long enough and longer; each message that is fed is cut at every place, and a reply's calls but the one that answers are
+ * lent lists that do not count; of a finding each number is changed. All is run twice: with guard bytes around each buffer, and with each buffer at the end of
+ * a page that no page follows. The expected bytes are worked out by hand from documents 01 and 02. The last line is 'N checks, M failed'; the status is 0 only for M = 0.
  */
 #define _DEFAULT_SOURCE
 #include "ntske.h"
@@ -15,8 +15,8 @@
 #include <unistd.h>
 
 static unsigned long checks, failed;
-enum { REFUSALS = 17 };
-static unsigned seen[REFUSALS]; /* by refusal */
+enum { REFUSALS = 18 };
+static unsigned seen[REFUSALS + 1]; /* by refusal, and of 17 where an algorithm was not offered behind them */
 
 static void check(int holds, const char *what, const char *of, size_t more)
 {
@@ -31,10 +31,12 @@ static void check(int holds, const char *what, const char *of, size_t more)
 
 struct bytes { size_t n; const uint8_t *p; };
 struct words { size_t n; const uint16_t *p; };
+struct offered { struct words protocols, algorithms; };
 
 #define WORDS(...) ((struct words){sizeof((uint16_t[]){__VA_ARGS__}) / sizeof(uint16_t), (uint16_t[]){__VA_ARGS__}})
 #define NO_BYTES ((struct bytes){0, NULL})
 #define NO_WORDS ((struct words){0, NULL})
+#define OFFERED(protocols, algorithms) ((struct offered){protocols, algorithms})
 #define PART(at, n) ((struct ntske_range){.start = (at), .len = (n)})
 #define REPLY(...) ((struct ntske_reply){__VA_ARGS__})
 #define ITEM(...) ((struct ntske_record){__VA_ARGS__})
@@ -44,7 +46,10 @@ struct words { size_t n; const uint16_t *p; };
 #define CONNECTION(...) ((struct ntske_connection){__VA_ARGS__})
 #define FINDING(...) ((struct ntske_finding){__VA_ARGS__})
 
-/* A reader's refusal: its number, the number beside it, and its place. */
+/* Bits 0 to 15 of the word of 17: a protocol that was not offered, and an algorithm. */
+enum { PROTOCOL_17 = 17 + 256, ALGORITHM_17 = 17 + 512 };
+
+/* A reader's refusal: its number, or what it has in bits 0 to 15, the number beside it, and its place. */
 static uint64_t with(unsigned number, unsigned beside, unsigned long place)
 {
     return number + ((uint64_t)beside << 16) + ((uint64_t)place << 32);
@@ -54,6 +59,18 @@ static uint64_t at(unsigned number, unsigned long place)
 {
     return with(number, 0, place);
 }
+
+/* What most clients here offer; and lists that are lent to a call that does not look at them. */
+static const struct offered usually = {
+    {2, (const uint16_t[]){NTSKE_NTPV4, NTSKE_DRAFT_NTPV5}},
+    {2, (const uint16_t[]){NTSKE_AES_SIV_CMAC_512, NTSKE_AES_SIV_CMAC_256}},
+};
+static const struct offered whatever[] = {
+    {{0, NULL}, {0, NULL}},
+    {{1, (const uint16_t[]){65535}}, {2, (const uint16_t[]){256, 1}}},
+    {{3, (const uint16_t[]){0, 0x8001, 1}}, {4, (const uint16_t[]){15, 16, 17, 65535}}},
+};
+enum { WHATEVER = sizeof whatever / sizeof *whatever };
 
 /* What a request's reader answers. */
 static struct ntske_request key_exchange(struct ntske_range protocols, struct ntske_range algorithms, size_t denied)
@@ -199,7 +216,7 @@ static void after(const char *what, uint64_t got, uint64_t want)
 {
     check(got == want, what, "returned", (size_t)got);
     if (want != NTSKE_OK && ntske_refusal(want) < REFUSALS)
-        seen[ntske_refusal(want)]++;
+        seen[ntske_refusal(want) + ((want & 0xFFFF) == ALGORITHM_17)]++;
     for (int i = 0; i < lents; i++) {
         struct lent *x = &lent[i];
         check(memcmp(x->at, x->want, x->size) == 0, what, "lent memory differs", (size_t)i);
@@ -288,17 +305,30 @@ static void request_refused(const char *what, struct bytes m, uint16_t limit, si
     request(what, m, limit, cells, want, support(PART(0, 0), 0, 0, 0), NO_WORDS);
 }
 
-static void reply(const char *what, struct bytes m, uint16_t limit, size_t cells, uint64_t want, struct ntske_reply answer, struct words table)
+/* The same of a reply, to a client that offered this. */
+static void reply_to(const char *what, struct offered offered, struct bytes m, uint16_t limit, size_t cells, uint64_t want, struct ntske_reply answer,
+                     struct words table)
 {
     uint8_t *lent_m = lend(m.p, m.n);
+    uint16_t *p = lend(offered.protocols.p, 2 * offered.protocols.n), *q = lend(offered.algorithms.p, 2 * offered.algorithms.n);
     uint16_t *t = lend(NULL, cells * sizeof(uint16_t));
     struct ntske_reply *a = lend(NULL, sizeof *a);
-    uint64_t got = ntske_read_reply(lent_m, m.n, limit, t, cells, a);
+    uint64_t got = ntske_read_reply(lent_m, m.n, limit, p, offered.protocols.n, q, offered.algorithms.n, t, cells, a);
     if (want == NTSKE_OK) {
         becomes(a, 0, &answer, sizeof answer);
         becomes(t, 0, table.p, table.n * sizeof(uint16_t));
     }
     after(what, got, want);
+}
+
+static void reply_to_refused(const char *what, struct offered offered, struct bytes m, size_t cells, uint64_t want)
+{
+    reply_to(what, offered, m, NTSKE_LIMIT, cells, want, REPLY(.cookies = 0), NO_WORDS);
+}
+
+static void reply(const char *what, struct bytes m, uint16_t limit, size_t cells, uint64_t want, struct ntske_reply answer, struct words table)
+{
+    reply_to(what, usually, m, limit, cells, want, answer, table);
 }
 
 static void reply_refused(const char *what, struct bytes m, uint16_t limit, size_t cells, uint64_t want)
@@ -383,6 +413,7 @@ struct line {
     struct came came;
     uint64_t want;
     int is_reply;
+    struct offered offered; /* of a reply, lent to the call that answers */
     struct ntske_request request;
     struct ntske_reply reply;
     struct words table;
@@ -392,7 +423,7 @@ struct line {
 struct kept {
     struct ntske_connection connection;
     uint8_t buffer[ROOM];
-    size_t fed;
+    size_t fed, calls;
     int answered;
 };
 
@@ -411,20 +442,26 @@ static struct ntske_connection gathered(const struct line *x, size_t n, uint64_t
     if (want == NTSKE_OK)
         c.state = 1;
     else if (want != NTSKE_WAITING)
-        c.state = 2, c.number = ntske_refusal(want), c.beside = ntske_beside(want), c.place = ntske_place(want);
+        c.state = 2, c.number = want & 0xFFFF, c.beside = ntske_beside(want), c.place = ntske_place(want);
     return c;
 }
 
-/* Calls with a piece, or where there is none, closes. */
-static uint64_t feed(int is_reply, struct ntske_connection *c, const struct bytes *piece, uint8_t *b, size_t room, uint16_t *t, size_t cells, void *a)
+/* Calls with a piece, or where there is none, closes; of a reply, with what was offered. */
+static uint64_t feed(const struct offered *of_reply, struct ntske_connection *c, const struct bytes *piece, uint8_t *b, size_t room, uint16_t *t, size_t cells,
+                     void *a)
 {
     const uint8_t *p = piece ? lend(piece->p, piece->n) : NULL;
-    if (is_reply)
-        return piece ? ntske_feed_reply(c, p, piece->n, b, room, t, cells, a) : ntske_close_reply(c, b, room, t, cells, a);
-    return piece ? ntske_feed_request(c, p, piece->n, b, room, t, cells, a) : ntske_close_request(c, b, room, t, cells, a);
+    if (!of_reply)
+        return piece ? ntske_feed_request(c, p, piece->n, b, room, t, cells, a) : ntske_close_request(c, b, room, t, cells, a);
+    size_t protocols_len = of_reply->protocols.n, algorithms_len = of_reply->algorithms.n;
+    const uint16_t *protocols = lend(of_reply->protocols.p, 2 * protocols_len), *algorithms = lend(of_reply->algorithms.p, 2 * algorithms_len);
+    if (!piece)
+        return ntske_close_reply(c, protocols, protocols_len, algorithms, algorithms_len, b, room, t, cells, a);
+    return ntske_feed_reply(c, p, piece->n, protocols, protocols_len, algorithms, algorithms_len, b, room, t, cells, a);
 }
 
-/* One call: hands over a piece, or closes. A call after the answer changes nothing but the cells of one that is accepted. */
+/* One call: hands over a piece, or closes. A call after the answer changes nothing but the cells of one that is accepted. What was offered counts in the call
+   that answers; before and after it other lists are lent. */
 static void hand(const struct line *x, struct kept *k, const struct bytes *piece, size_t cells)
 {
     struct ntske_connection *c = lend(&k->connection, sizeof k->connection);
@@ -433,7 +470,8 @@ static void hand(const struct line *x, struct kept *k, const struct bytes *piece
     void *a = lend(NULL, x->is_reply ? sizeof x->reply : sizeof x->request);
     size_t fed = k->fed + (piece ? piece->n : 0);
     int first = !k->answered && (!piece || fed >= x->came.needed);
-    uint64_t got = feed(x->is_reply, c, piece, b, x->under.room, t, cells, a), want = first || k->answered ? x->want : NTSKE_WAITING;
+    const struct offered *offered = first ? &x->offered : &whatever[k->calls++ % WHATEVER];
+    uint64_t got = feed(x->is_reply ? offered : NULL, c, piece, b, x->under.room, t, cells, a), want = first || k->answered ? x->want : NTSKE_WAITING;
 
     if (!k->answered) {
         size_t n = first ? x->came.stored : fed;
@@ -495,14 +533,25 @@ static void feeds_refused(const char *what, struct bytes m, struct under under, 
     fed(&(struct line){what, m, under, came, want, .is_reply = 0});
 }
 
+static void feeds_reply_to(const char *what, struct offered offered, struct bytes m, struct under under, struct came came, struct ntske_reply answer,
+                           struct words table)
+{
+    fed(&(struct line){what, m, under, came, .is_reply = 1, .offered = offered, .reply = answer, .table = table});
+}
+
+static void feeds_reply_to_refused(const char *what, struct offered offered, struct bytes m, struct under under, struct came came, uint64_t want)
+{
+    fed(&(struct line){what, m, under, came, want, .is_reply = 1, .offered = offered});
+}
+
 static void feeds_reply(const char *what, struct bytes m, struct under under, struct came came, struct ntske_reply answer, struct words table)
 {
-    fed(&(struct line){what, m, under, came, .is_reply = 1, .reply = answer, .table = table});
+    feeds_reply_to(what, usually, m, under, came, answer, table);
 }
 
 static void feeds_reply_refused(const char *what, struct bytes m, struct under under, struct came came, uint64_t want)
 {
-    fed(&(struct line){what, m, under, came, want, .is_reply = 1});
+    feeds_reply_to_refused(what, usually, m, under, came, want);
 }
 
 /* ---- choosing ---- */
@@ -856,6 +905,73 @@ static void reading(void)
     utf8(join(times(70000, H("61")), H("C3")), 0);
 }
 
+/* A reply must answer what was asked. */
+static void offering(void)
+{
+    static uint16_t many[70000];
+    for (size_t i = 0; i < 70000; i++)
+        many[i] = (uint16_t)(i < 69999 ? 1000 + i % 60000 : 15);
+    struct words ntp = WORDS(0), siv = WORDS(15), longer = WORDS(17), all = {70000, many}, but_the_last = {69999, many};
+    struct bytes r = H("8001 0002 0000 8004 0002 000F 0005 0004 DEADBEEF 8000 0000"), pool = H("8001 0002 0000 8004 0002 0011 0005 0004 DEADBEEF 8000 0000");
+    struct ntske_reply one = REPLY(.algorithm = 15, .cookies = 1);
+    struct words cookie = WORDS(16, 4);
+    reply_to("just what was offered", OFFERED(ntp, siv), r, NTSKE_LIMIT, 2, 0, one, cookie);
+    reply_to("the last of each list", OFFERED(WORDS(0x8001, 1, 0), WORDS(17, 16, 15)), r, NTSKE_LIMIT, 2, 0, one, cookie);
+    reply_to("the first of each list", OFFERED(WORDS(0, 1, 0x8001), WORDS(15, 16, 17)), r, NTSKE_LIMIT, 2, 0, one, cookie);
+    reply_to("a number twice", OFFERED(WORDS(0, 0), WORDS(15, 17, 15)), r, NTSKE_LIMIT, 2, 0, one, cookie);
+    reply_to("the last of 70,000", OFFERED(ntp, all), r, NTSKE_LIMIT, 2, 0, one, cookie);
+    reply_to("numbers of no meaning", OFFERED(WORDS(65535), WORDS(65534)), H("8001 0002 FFFF 8004 0002 FFFE 0005 0004 DEADBEEF 8000 0000"), NTSKE_LIMIT, 2, 0,
+             REPLY(.protocol = 65535, .algorithm = 65534, .cookies = 1), cookie);
+    reply_to_refused("a pool machine: 17 to one that offered 15", OFFERED(ntp, siv), pool, 2, with(ALGORITHM_17, 17, 20));
+    reply_to_refused("another algorithm", OFFERED(ntp, longer), r, 2, with(ALGORITHM_17, 15, 20));
+    reply_to_refused("another algorithm, twice", OFFERED(ntp, WORDS(17, 17)), r, 2, with(ALGORITHM_17, 15, 20));
+    reply_to_refused("none of 69,999", OFFERED(ntp, but_the_last), r, 2, with(ALGORITHM_17, 15, 20));
+    reply_to_refused("another protocol", OFFERED(WORDS(0x8001), siv), r, 2, with(PROTOCOL_17, 0, 20));
+    reply_to_refused("another protocol, twice", OFFERED(WORDS(1, 1), siv), r, 2, with(PROTOCOL_17, 0, 20));
+    reply_to_refused("the protocol before the algorithm", OFFERED(WORDS(0x8001), longer), r, 2, with(PROTOCOL_17, 0, 20));
+    reply_to_refused("each in the other's list", OFFERED(siv, ntp), r, 2, with(PROTOCOL_17, 0, 20));
+    reply_to_refused("an algorithm among the protocols", OFFERED(WORDS(0, 15), ntp), r, 2, with(ALGORITHM_17, 15, 20));
+    reply_to_refused("nothing offered", OFFERED(NO_WORDS, NO_WORDS), r, 2, with(PROTOCOL_17, 0, 20));
+    reply_to_refused("no protocol offered", OFFERED(NO_WORDS, siv), r, 2, with(PROTOCOL_17, 0, 20));
+    reply_to_refused("no algorithm offered", OFFERED(ntp, NO_WORDS), r, 2, with(ALGORITHM_17, 15, 20));
+    struct bytes bytes = H("8001 0002 1234 8004 0002 5678 0005 0000 8000 0000");
+    reply_to_refused("a protocol that is alike", OFFERED(WORDS(0x3412, 0x1200, 0x34, 0x1235), WORDS(0x5678)), bytes, 2, with(PROTOCOL_17, 0x1234, 16));
+    reply_to_refused("an algorithm that is alike", OFFERED(WORDS(0x1234), WORDS(0x7856, 0x5600, 0x78, 0x5679)), bytes, 2, with(ALGORITHM_17, 0x5678, 16));
+
+    /* after 14 and before 15 and 7 */
+    struct offered none = OFFERED(NO_WORDS, NO_WORDS), algorithm = OFFERED(ntp, NO_WORDS);
+    reply_to_refused("no list of protocols", none, H("8004 0002 000F 8000 0000"), 2, at(4, 6));
+    reply_to_refused("an empty list of protocols", none, H("8001 0000 8000 0000"), 2, at(13, 4));
+    reply_to_refused("no list of algorithms", none, H("8001 0002 0000 8000 0000"), 2, at(4, 6));
+    reply_to_refused("an empty list of algorithms", none, H("8001 0002 0000 8004 0000 8000 0000"), 2, at(14, 10));
+    reply_to_refused("the protocol before no cookie", none, H("8001 0002 0000 8004 0002 000F 8000 0000"), 2, with(PROTOCOL_17, 0, 12));
+    reply_to_refused("the algorithm before no cookie", algorithm, H("8001 0002 0000 8004 0002 000F 8000 0000"), 2, with(ALGORITHM_17, 15, 12));
+    reply_to_refused("no cookie", OFFERED(ntp, siv), H("8001 0002 0000 8004 0002 000F 8000 0000"), 0, at(15, 12));
+    reply_to_refused("the protocol before no cell", none, r, 0, with(PROTOCOL_17, 0, 20));
+    reply_to_refused("the algorithm before no cell", algorithm, r, 1, with(ALGORITHM_17, 15, 20));
+    reply_to_refused("no cell", OFFERED(ntp, siv), r, 1, at(7, 20));
+
+    /* what stops the walk comes first */
+    reply_to_refused("an error", none, H("8001 0002 0000 8004 0002 000F 8002 0002 0001"), 2, with(11, 1, 12));
+    reply_to_refused("two algorithms", none, H("8001 0002 0000 8004 0004 000F 0011"), 2, at(4, 6));
+    reply_to_refused("a byte short", none, (struct bytes){23, r.p}, 2, at(1, 20));
+    reply_to_refused("no byte", none, NO_BYTES, 0, at(1, 0));
+
+    /* in pieces */
+    struct under usual = UNDER(NTSKE_LIMIT, 64, 8);
+    feeds_reply_to("just what was offered", OFFERED(ntp, siv), join(r, H("FF")), usual, whole(20, 24), one, cookie);
+    feeds_reply_to("a number twice", OFFERED(WORDS(0, 0), WORDS(15, 15)), r, usual, whole(20, 24), one, cookie);
+    feeds_reply_to_refused("a pool machine", OFFERED(ntp, siv), join(pool, H("FFFF")), usual, whole(20, 24), with(ALGORITHM_17, 17, 20));
+    feeds_reply_to_refused("another protocol", OFFERED(WORDS(0x8001), siv), r, usual, whole(20, 24), with(PROTOCOL_17, 0, 20));
+    feeds_reply_to_refused("nothing offered", none, r, usual, whole(20, 24), with(PROTOCOL_17, 0, 20));
+    feeds_reply_to_refused("no algorithm offered", algorithm, r, usual, whole(20, 24), with(ALGORITHM_17, 15, 20));
+    feeds_reply_to_refused("before no cookie", none, H("8001 0002 0000 8004 0002 000F 8000 0000"), usual, whole(12, 16), with(PROTOCOL_17, 0, 12));
+    feeds_reply_to_refused("before no cell", algorithm, r, UNDER(NTSKE_LIMIT, 64, 0), whole(20, 24), with(ALGORITHM_17, 15, 20));
+    feeds_reply_to_refused("a byte short", none, (struct bytes){23, r.p}, usual, closed(23), at(1, 20));
+    feeds_reply_to_refused("a buffer of 23", none, r, UNDER(NTSKE_LIMIT, 23, 8), full(23), at(16, 23));
+    feeds_reply_to_refused("an empty list of algorithms", none, H("8001 0002 0000 8004 0000 8000 0000"), usual, whole(10, 14), at(14, 10));
+}
+
 static void deciding(void)
 {
     struct bytes m = H("8001 0002 0000 8004 0002 000F 8000 0000");
@@ -1010,7 +1126,7 @@ static void no_connection(const char *what, struct ntske_connection connection, 
             uint8_t *b = lend(NULL, room);
             uint16_t *t = lend(NULL, 8 * sizeof(uint16_t));
             void *a = lend(NULL, is_reply ? sizeof(struct ntske_reply) : sizeof(struct ntske_request));
-            after(what, feed(is_reply, c, pieces[i], b, room, t, 8, a), at(9, 0));
+            after(what, feed(is_reply ? &whatever[i] : NULL, c, pieces[i], b, room, t, 8, a), at(9, 0));
         }
 }
 
@@ -1040,24 +1156,51 @@ static void connections(void)
         no_connection("a place without a refusal", CONNECTION(.limit = 64, .state = state, .place = 1), 64);
     }
     no_connection("refused with 0", CONNECTION(.limit = 64, .state = 2), 64);
-    no_connection("refused with 17", CONNECTION(.limit = 64, .state = 2, .number = 17), 64);
-    no_connection("refused with SIZE_MAX", CONNECTION(.limit = 64, .state = 2, .number = SIZE_MAX), 64);
+    static const size_t numbers[] = {17, 18, 255, 256, 257, 261, 272, 274, 512, 513, 528, 530, 785, 65535, 65536 + 273, 65536 + 1, SIZE_MAX};
+    for (size_t i = 0; i < sizeof numbers / sizeof *numbers; i++) {
+        no_connection("refused with another number", CONNECTION(.limit = 64, .state = 2, .number = numbers[i]), 64);
+        no_connection("and one beside it", CONNECTION(.limit = 64, .state = 2, .number = numbers[i], .beside = 15, .place = 20), 64);
+    }
     no_connection("a code above 65,535", CONNECTION(.limit = 64, .state = 2, .number = 11, .beside = 65536), 64);
-    no_connection("a code beside 4", CONNECTION(.limit = 64, .state = 2, .number = 4, .beside = 1), 64);
+    no_connection("a protocol above 65,535", CONNECTION(.limit = 64, .state = 2, .number = PROTOCOL_17, .beside = 65536), 64);
+    no_connection("an algorithm above 65,535", CONNECTION(.limit = 64, .state = 2, .number = ALGORITHM_17, .beside = 65536), 64);
+    for (size_t n = 1; n < NTSKE_NOT_OFFERED; n++)
+        if (!ntske_has_beside(n))
+            no_connection("a number beside one that has none", CONNECTION(.limit = 64, .state = 2, .number = n, .beside = 1), 64);
+    for (size_t state = 0; state < 2; state++)
+        no_connection("17 without a refusal", CONNECTION(.limit = 64, .state = state, .number = ALGORITHM_17, .beside = 15), 64);
+    no_connection("more than the limit, refused with 17", CONNECTION(.limit = 15, .gathered = 16, .state = 2, .number = PROTOCOL_17, .place = 12), 64);
     no_connection("a place above 32 bits", CONNECTION(.limit = 64, .state = 2, .number = 1, .place = (size_t)1 << 32), 64);
 
     /* a refusal that was kept is told again, whatever it is */
-    for (unsigned n = 1; n < REFUSALS; n++) {
+    for (unsigned i = 1; i <= REFUSALS; i++) {
+        unsigned n = i < NTSKE_NOT_OFFERED ? i : i == NTSKE_NOT_OFFERED ? PROTOCOL_17 : ALGORITHM_17;
         uint64_t want = ntske_has_beside(n) ? with(n, 65535, 4294967295) : at(n, 4294967295);
         struct ntske_connection kept = CONNECTION(.limit = 64, .state = 2, .number = n, .beside = ntske_beside(want), .place = ntske_place(want));
         struct bytes m = H("8001 0000");
-        for (int is_reply = 0; is_reply < 2; is_reply++) {
-            struct ntske_connection *c = lend(&kept, sizeof kept);
-            uint8_t *b = lend(NULL, 64);
-            uint16_t *t = lend(NULL, 8 * sizeof(uint16_t));
-            void *a = lend(NULL, sizeof(struct ntske_request));
-            after("a refusal that was kept", feed(is_reply, c, &m, b, 64, t, 8, a), want);
-        }
+        const struct bytes *pieces[] = {&m, NULL};
+        for (int is_reply = 0; is_reply < 2; is_reply++)
+            for (int j = 0; j < 2; j++) {
+                struct ntske_connection *c = lend(&kept, sizeof kept);
+                uint8_t *b = lend(NULL, 64);
+                uint16_t *t = lend(NULL, 8 * sizeof(uint16_t));
+                void *a = lend(NULL, sizeof(struct ntske_request));
+                after("a refusal that was kept", feed(is_reply ? &whatever[(i + (unsigned)j) % WHATEVER] : NULL, c, pieces[j], b, 64, t, 8, a), want);
+            }
+    }
+
+    /* an accepted one is what the reply reader says of the bytes gathered, whatever was offered */
+    struct bytes r = H("8001 0002 0000 8004 0002 000F 0005 0004 DEADBEEF 8000 0000");
+    for (unsigned i = 0; i < WHATEVER; i++) {
+        struct ntske_connection kept = CONNECTION(.limit = 64, .gathered = 24, .begins = 20, .met = 1 << 1 | 1 << 4 | 1 << 5, .state = 1);
+        struct ntske_reply one = REPLY(.algorithm = 15, .cookies = 1);
+        struct ntske_connection *c = lend(&kept, sizeof kept);
+        uint8_t *b = lend(r.p, r.n);
+        uint16_t *t = lend(NULL, 2);
+        struct ntske_reply *a = lend(NULL, sizeof *a);
+        uint64_t got = feed(&whatever[i], c, &r, b, r.n, t, 1, a);
+        becomes(a, 0, &one, sizeof one);
+        after("an accepted one that was kept", got, NTSKE_OK);
     }
 
     /* a record that begins past what is gathered counts as one that begins there */
@@ -1067,7 +1210,7 @@ static void connections(void)
     uint8_t *b = lend(NULL, 64);
     uint16_t *t = lend(NULL, 8 * sizeof(uint16_t));
     void *a = lend(NULL, sizeof(struct ntske_request));
-    uint64_t got = feed(0, c, &m, b, 64, t, 8, a);
+    uint64_t got = feed(NULL, c, &m, b, 64, t, 8, a);
     becomes(c, 0, &then, sizeof then);
     becomes(b, 0, m.p, m.n);
     after("begun past what is gathered", got, NTSKE_WAITING);
@@ -1346,21 +1489,28 @@ static void records(void)
 /* The header's own functions: a word taken apart and told, the code of an error, and the exporter's context. */
 static void header(void)
 {
-    static const struct { uint64_t word; unsigned refusal, beside; unsigned long place; int has; } words[] = {
-        {0, 0, 0, 0, 0},
-        {9, 9, 0, 0, 0},
-        {0x0000000C00000001, 1, 0, 12, 0},
-        {0x0000005A00100005, 5, 16, 90, 1},
-        {0x000000000000000B, 11, 0, 0, 1},
-        {0x00000004FFFF000B, 11, 65535, 4, 1},
-        {0xFFFFFFFF0007000C, 12, 7, 4294967295, 1},
-        {0xFFFFFFFFFFFFFFFF, 65535, 65535, 4294967295, 0},
+    static const struct { uint64_t word; unsigned refusal, beside; unsigned long place; int sort; } words[] = {
+        {0, 0, 0, 0, NTSKE_BESIDE_NONE},
+        {9, 9, 0, 0, NTSKE_BESIDE_NONE},
+        {0x0000000C00000001, 1, 0, 12, NTSKE_BESIDE_NONE},
+        {0x0000005A00100005, 5, 16, 90, NTSKE_BESIDE_ALGORITHM},
+        {0x000000000000000B, 11, 0, 0, NTSKE_BESIDE_CODE},
+        {0x00000004FFFF000B, 11, 65535, 4, NTSKE_BESIDE_CODE},
+        {0xFFFFFFFF0007000C, 12, 7, 4294967295, NTSKE_BESIDE_CODE},
+        {0x0000001400000111, 17, 0, 20, NTSKE_BESIDE_PROTOCOL},
+        {0xFFFFFFFFFFFF0111, 17, 65535, 4294967295, NTSKE_BESIDE_PROTOCOL},
+        {0x00000014000F0211, 17, 15, 20, NTSKE_BESIDE_ALGORITHM},
+        {0xFFFFFFFFFFFF0211, 17, 65535, 4294967295, NTSKE_BESIDE_ALGORITHM},
+        {NTSKE_NOT_OFFERED, 17, 0, 0, NTSKE_BESIDE_NONE},
+        {0x0000001400000311, 17, 0, 20, NTSKE_BESIDE_NONE},
+        {0xFFFFFFFFFFFFFFFF, 255, 65535, 4294967295, NTSKE_BESIDE_NONE},
     };
     for (size_t i = 0; i < sizeof words / sizeof *words; i++) {
         check(ntske_refusal(words[i].word) == words[i].refusal, "a word", "refusal", i);
         check(ntske_beside(words[i].word) == words[i].beside, "a word", "beside", i);
         check(ntske_place(words[i].word) == words[i].place, "a word", "place", i);
-        check(ntske_has_beside(words[i].word) == words[i].has, "a word", "whether a number is beside", i);
+        check((int)ntske_beside_sort(words[i].word) == words[i].sort, "a word", "what is beside", i);
+        check(ntske_has_beside(words[i].word) == (words[i].sort != NTSKE_BESIDE_NONE), "a word", "whether a number is beside", i);
     }
 
     static const char *const said[REFUSALS] = {
@@ -1381,18 +1531,29 @@ static void header(void)
         "no algorithm in common",
         "no cookie",
         "the buffer has no room for a byte that the read needs",
+        "the reply names what was not offered",
     };
-    static const uint16_t codes[REFUSALS] = {2, 1, 1, 0, 1, 1, 1, 2, 2, 2, 2, 2, 2, 2, 2, 2, 2};
+    static const uint16_t codes[REFUSALS] = {2, 1, 1, 0, 1, 1, 1, 2, 2, 2, 2, 2, 2, 2, 2, 2, 2, 2};
     for (unsigned i = 0; i < REFUSALS; i++)
         for (unsigned j = 0; j < 2; j++) {
             uint64_t answer = j ? with(i, 65535, 4294967295) : i;
             check(strcmp(ntske_words(answer), said[i]) == 0, "in words", ntske_words(answer), i);
             check(ntske_error_code(answer) == codes[i], "a code", "for the refusal", i);
         }
-    check(strcmp(ntske_words(17), "a refusal that this header does not know") == 0, "in words", ntske_words(17), 17);
-    check(strcmp(ntske_words(at(65535, 1)), ntske_words(17)) == 0, "in words", ntske_words(at(65535, 1)), 65535);
+    static const struct { unsigned number; const char *said; } told[] = {
+        {PROTOCOL_17, "the reply's protocol was not offered"},
+        {ALGORITHM_17, "the reply's algorithm was not offered"},
+        {18, "a refusal that this header does not know"},
+        {255, "a refusal that this header does not know"},
+    };
+    for (size_t i = 0; i < sizeof told / sizeof *told; i++)
+        for (unsigned j = 0; j < 2; j++) {
+            uint64_t answer = j ? with(told[i].number, 65535, 4294967295) : told[i].number;
+            check(strcmp(ntske_words(answer), told[i].said) == 0, "in words", ntske_words(answer), told[i].number);
+            check(ntske_error_code(answer) == NTSKE_CODE_INTERNAL_SERVER_ERROR, "a code", "for the refusal", told[i].number);
+        }
+    check(strcmp(ntske_words(at(65535, 1)), ntske_words(18)) == 0, "in words", ntske_words(at(65535, 1)), 65535);
     check(strcmp(ntske_words(NTSKE_WAITING), "the read waits for more bytes") == 0, "in words", ntske_words(NTSKE_WAITING), NTSKE_WAITING);
-    check(ntske_error_code(17) == NTSKE_CODE_INTERNAL_SERVER_ERROR, "a code", "for the refusal", 17);
 
     /* RFC 8915, section 5.1: two bytes of the protocol, two of the algorithm, and 0 for the key from client to server or 1 for the other */
     static const struct { uint16_t protocol, algorithm; int s2c; const char *context; } contexts[] = {
@@ -1420,6 +1581,7 @@ int main(void)
     for (at_the_end_of_a_page = 0; at_the_end_of_a_page < 2; at_the_end_of_a_page++) {
         taken = 0;
         reading();
+        offering();
         deciding();
         feeding();
         connections();
@@ -1431,7 +1593,7 @@ int main(void)
         records();
         header();
     }
-    for (size_t i = 1; i < REFUSALS; i++)
+    for (size_t i = 1; i <= REFUSALS; i++)
         check(seen[i] > 0, "every refusal is seen", "not this one", i);
     printf("%lu checks, %lu failed\n", checks, failed);
     return failed != 0;

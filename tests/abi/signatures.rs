@@ -396,10 +396,11 @@ fn numbers(header: &str, read: &impl Fn(&str) -> String) -> Vec<String> {
     let mut found = vec![];
 
     let error_arms = |function: &str| arms(between(&nts, function, "\n    }\n"), "NtsError::");
-    let refusals: Numbers = error_arms("pub fn number(self) -> u8")
+    let cases: Numbers = error_arms("pub fn number(self) -> u8")
         .into_iter()
         .map(|(name, told)| (in_capitals(&name), number(first_of(&told))))
         .collect();
+    let refusals = of_one_number(&cases);
     let sorts = arms(between(&reading, "fn request_cells(", "\n}\n"), "Request::");
     let sorts = sorts
         .into_iter()
@@ -421,7 +422,7 @@ fn numbers(header: &str, read: &impl Fn(&str) -> String) -> Vec<String> {
     let one = |name: &str| of_plan.iter().find(|of| of.0 == name).unwrap_or_else(|| panic!("no Plan::{name}")).1;
     let tags = vec![("COOKIE".to_string(), one("COOKIE")), ("DENIED".to_string(), one("DENIED"))];
     for (name, prefix, ours, least) in [
-        ("ntske_refusals", "NTSKE_", refusals, 16),
+        ("ntske_refusals", "NTSKE_", refusals.clone(), 17),
         ("ntske_kinds", "NTSKE_KIND_", kinds, 14),
         ("ntske_found_indices", "NTSKE_FOUND_", indices, 15),
         ("ntske_sorts", "NTSKE_", sorts, 3),
@@ -476,32 +477,79 @@ fn numbers(header: &str, read: &impl Fn(&str) -> String) -> Vec<String> {
 
     // a word taken apart: where each number begins, and which refusals have one beside them
     let (beside, place) = (between(&cells, "const BESIDE: u64 = ", ";"), between(&cells, "const PLACE: u64 = ", ";"));
-    for (value, bit, shift) in [(beside, 16, "(answer >> 16 & 0xFFFF)"), (place, 32, "(answer >> 32)")] {
+    let sort = between(&cells, "const SORT: u16 = ", ";");
+    if !header.contains("(answer & 0xFF)") {
+        found.push("a word: the header does not take the number from bits 0 to 7".into());
+    }
+    for (value, bit, shift) in
+        [(sort, 8, "(answer >> 8 & 0xFF)"), (beside, 16, "(answer >> 16 & 0xFFFF)"), (place, 32, "(answer >> 32)")]
+    {
         if number(value) != 1 << bit || !header.contains(shift) {
             found.push(format!("a word: {value} in the source, and {shift} in the header"));
         }
     }
-    let ours: Vec<String> = error_arms("pub fn code(self) -> Code")
+    let sorts: Numbers = arms(between(&cells, "\nfn sort(", "\n}\n"), "Code::")
         .into_iter()
-        .filter(|(_, beside)| beside.starts_with("Code::Number"))
-        .map(|(name, _)| format!("n == NTSKE_{}", in_capitals(&name)))
+        .map(|(name, told)| (in_capitals(&name), number(first_of(&told))))
+        .filter(|(_, sort)| *sort != 0)
         .collect();
-    if !spaced(between(header, "ntske_has_beside(", "\n}\n")).contains(&format!("return {};", ours.join(" || "))) {
-        found.push(format!("ntske_has_beside: source {ours:?}"));
+    for (name, sort) in &sorts {
+        if !header.contains(&format!("    NTSKE_BESIDE_{name} = {sort},\n")) {
+            found.push(format!("NTSKE_BESIDE_{name}: not {sort}, as in the source"));
+        }
+    }
+    if sorts.len() != 2 {
+        found.push(format!("what was not offered is told apart by {sorts:?}"));
+    }
+    let mut ours: Vec<String> = error_arms("pub fn code(self) -> Code")
+        .into_iter()
+        .filter(|(_, beside)| !beside.starts_with("Code::None"))
+        .filter_map(|(name, _)| cases.iter().find(|case| case.0 == in_capitals(&name)))
+        .filter_map(|(_, value)| refusals.iter().find(|refusal| refusal.1 == *value))
+        .map(|(name, _)| format!("NTSKE_{name}"))
+        .collect();
+    ours.dedup();
+    let theirs: Vec<&str> = between(header, "ntske_beside_sort(uint64_t answer)", "\n}\n")
+        .lines()
+        .filter_map(|line| line.trim().strip_prefix("case ")?.strip_suffix(':'))
+        .collect();
+    if ours != theirs {
+        found.push(format!("ntske_beside_sort:\n  source {ours:?}\n  there  {theirs:?}"));
     }
     found
 }
 
-/// The header's words for each refusal, which the binding for Rust has in the same order.
-fn words(header: &str, refusal: &str) -> Vec<String> {
-    let table = between(header, "words[] = {", "};");
-    let said: Vec<&str> = table.split('"').skip(1).step_by(2).collect();
-    let mut found = vec![];
-    if said.len() != 17 {
-        found.push(format!("ntske_words: {} sentences for 0 to 16", said.len()));
+/// Cases of one number have one name in C: the words that all of their names end in.
+fn of_one_number(cases: &Numbers) -> Numbers {
+    let mut found = Numbers::new();
+    for (name, value) in cases {
+        match found.last_mut() {
+            Some((before, same)) if same == value => {
+                let both = before.rsplit('_').zip(name.rsplit('_')).take_while(|(one, other)| one == other);
+                let mut words: Vec<&str> = both.map(|(word, _)| word).collect();
+                words.reverse();
+                *before = words.join("_");
+            }
+            _ => found.push((name.clone(), *value)),
+        }
     }
+    found
+}
+
+/// The header's words for each refusal, which the binding for Rust has in the same order. 17 has two that stand apart, and in the table one for a 17
+/// which does not tell what was not offered; Rust has no such value.
+fn words(header: &str, refusal: &str) -> Vec<String> {
+    let sentences = |name: &str| -> Vec<&str> {
+        between(header, &format!(" {name}[] = {{"), "};").split('"').skip(1).step_by(2).collect()
+    };
+    let (mut said, apart) = (sentences("words"), sentences("not_offered"));
+    let mut found = vec![];
+    if (said.len(), apart.len()) != (18, 2) {
+        found.push(format!("ntske_words: {} sentences for 0 to 17, and {} of 17", said.len(), apart.len()));
+    }
+    said.truncate(17);
     let mut rest = refusal;
-    for (n, sentence) in said.iter().enumerate().skip(1) {
+    for (n, sentence) in said.iter().chain(&apart).enumerate().skip(1) {
         let forms = [format!("\"{sentence}\""), format!("\"{sentence}, ")];
         match forms.iter().filter_map(|form| rest.find(form.as_str())).min() {
             Some(at) => rest = &rest[at..],

@@ -1,7 +1,7 @@
 //! A read that is fed as the line delivers.
 
 use crate::refusal::read;
-use crate::{raw, Denied, Message, Refusal, Reply, Request};
+use crate::{raw, Denied, Message, Offered, Refusal, Reply, Request};
 use core::fmt;
 
 /// What a piece led to that was not refused.
@@ -17,9 +17,10 @@ pub enum Fed<T> {
 /// gather. It lends both to the next call as the last one left them; the table may be another each time.
 ///
 /// A record is judged when it stands whole, or when the limit or the close cuts it. The answer, unless it is 16, is that
-/// of [`Message::request`] or [`Message::reply`] on all pieces joined. Once there is one, every later call gives it again
-/// and changes nothing: one that was accepted whatever the table is that is lent then, in which names and cookies are
-/// looked for; a refusal also where a larger table or buffer is lent.
+/// of [`Message::request`] or [`Message::reply`] on all pieces joined, the latter with what is told as [`Offered`] to the
+/// call that answers. Once there is one, every later call gives it again and changes nothing: one that was accepted
+/// whatever the table is that is lent then, in which names and cookies are looked for; a refusal also where a larger table
+/// or buffer is lent; and either whatever was offered then.
 ///
 /// A refusal may change buffer and connection, and never the table. The buffer begins with the joined bytes, through the
 /// record that decides or until it is full, and no byte behind them changes. 16 is for a byte that the read needs and
@@ -107,16 +108,18 @@ impl Connection {
         self.request(word, &answer, again, buffer, table)
     }
 
-    /// Hands over a piece of a reply, which may be empty. Refusals: 9, 1 to 4, 7, 11 to 16; and the one that the
-    /// connection holds.
+    /// Hands over a piece of a reply, which may be empty, and what the client offered. Refusals: 9, 1 to 4, 7, 11 to 17;
+    /// and the one that the connection holds.
     pub fn feed_reply<'b, 't>(
         &mut self,
         piece: &[u8],
+        offered: Offered<'_>,
         buffer: &'b mut [u8],
         table: &'t mut [u16],
     ) -> Result<Fed<Reply<'b, 't>>, Refusal> {
         let mut answer = [0; 9];
-        let word = raw::feed_reply(&mut self.0, piece, buffer, table, &mut answer);
+        let Offered { protocols, algorithms } = offered;
+        let word = raw::feed_reply(&mut self.0, piece, protocols, algorithms, buffer, table, &mut answer);
         if word == raw::WAITING {
             return Ok(Fed::Waiting);
         }
@@ -127,11 +130,13 @@ impl Connection {
     /// [`feed_reply`](Connection::feed_reply).
     pub fn close_reply<'b, 't>(
         &mut self,
+        offered: Offered<'_>,
         buffer: &'b mut [u8],
         table: &'t mut [u16],
     ) -> Result<Reply<'b, 't>, Refusal> {
         let mut answer = [0; 9];
-        let word = raw::close_reply(&mut self.0, buffer, table, &mut answer);
+        let Offered { protocols, algorithms } = offered;
+        let word = raw::close_reply(&mut self.0, protocols, algorithms, buffer, table, &mut answer);
         self.reply(word, &answer, buffer, table)
     }
 

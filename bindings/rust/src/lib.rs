@@ -33,12 +33,13 @@
 //!     }
 //! }
 //!
-//! // A client.
+//! // A client, which reads the reply with what it offered.
 //! let (mut out, mut message, mut table) = ([0; 1024], [0; 1024], [0; 16]);
-//! let wanted = [AeadAlgorithm::AES_SIV_CMAC_256];
-//! let request = write_request(&[NextProtocol::NTPV4], &wanted, &Names::new(&mut []), &mut out)?;
+//! let (protocols, algorithms) = ([NextProtocol::NTPV4], [AeadAlgorithm::AES_SIV_CMAC_256]);
+//! let request = write_request(&protocols, &algorithms, &Names::new(&mut []), &mut out)?;
 //! let message = reply(request, b"a cookie", &mut message)?;
-//! let reply = Message::new(message).reply(LIMIT, &mut table)?;
+//! let offered = Offered { protocols: &protocols, algorithms: &algorithms };
+//! let reply = Message::new(message).reply(LIMIT, offered, &mut table)?;
 //! assert_eq!((reply.protocol, reply.algorithm), (NextProtocol::NTPV4, AeadAlgorithm::AES_SIV_CMAC_256));
 //! assert!(reply.cookies.iter().map(Cookie::bytes).eq([b"a cookie"]));
 //! # Ok::<(), Box<dyn std::error::Error>>(())
@@ -72,7 +73,7 @@ pub use numbers::{
     EXPORTER_LABEL, LIMIT, LISTING, PORT, VERSION,
 };
 pub use planning::{Plan, Tray};
-pub use reading::{choose, choose_protocol, is_utf8, Chosen, Message, Reply, Request};
+pub use reading::{choose, choose_protocol, is_utf8, Chosen, Message, Offered, Reply, Request};
 pub use record::{Placed, Record, Records};
 pub use refusal::{Refusal, Refused};
 pub use views::{

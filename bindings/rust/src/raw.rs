@@ -22,6 +22,10 @@ extern "C" {
         message: *const u8,
         message_len: usize,
         limit: u16,
+        protocols: *const u16,
+        protocols_len: usize,
+        algorithms: *const u16,
+        algorithms_len: usize,
         table: *mut u16,
         table_len: usize,
         answer: *mut [usize; 9],
@@ -58,6 +62,10 @@ extern "C" {
         connection: *mut [usize; 8],
         piece: *const u8,
         piece_len: usize,
+        protocols: *const u16,
+        protocols_len: usize,
+        algorithms: *const u16,
+        algorithms_len: usize,
         buffer: *mut u8,
         buffer_len: usize,
         table: *mut u16,
@@ -66,6 +74,10 @@ extern "C" {
     ) -> u64;
     fn ntske_close_reply(
         connection: *mut [usize; 8],
+        protocols: *const u16,
+        protocols_len: usize,
+        algorithms: *const u16,
+        algorithms_len: usize,
         buffer: *mut u8,
         buffer_len: usize,
         table: *mut u16,
@@ -275,9 +287,30 @@ pub fn read_request(message: &[u8], limit: u16, table: &mut [u16], answer: &mut 
 }
 
 #[inline]
-pub fn read_reply(message: &[u8], limit: u16, table: &mut [u16], answer: &mut ReplyCells) -> u64 {
-    // Safety: message and table are slices, answer an array; the last two are borrowed alone.
-    unsafe { ntske_read_reply(message.as_ptr(), message.len(), limit, table.as_mut_ptr(), table.len(), answer) }
+pub fn read_reply(
+    message: &[u8],
+    limit: u16,
+    protocols: &[NextProtocol],
+    algorithms: &[AeadAlgorithm],
+    table: &mut [u16],
+    answer: &mut ReplyCells,
+) -> u64 {
+    let (protocols, algorithms) = (protocol_numbers(protocols), algorithm_numbers(algorithms));
+    // Safety: message, lists and table are slices, answer an array; the last two are borrowed alone.
+    unsafe {
+        ntske_read_reply(
+            message.as_ptr(),
+            message.len(),
+            limit,
+            protocols.as_ptr(),
+            protocols.len(),
+            algorithms.as_ptr(),
+            algorithms.len(),
+            table.as_mut_ptr(),
+            table.len(),
+            answer,
+        )
+    }
 }
 
 #[inline]
@@ -328,26 +361,57 @@ pub fn close_request(
 pub fn feed_reply(
     connection: &mut ConnectionCells,
     piece: &[u8],
+    protocols: &[NextProtocol],
+    algorithms: &[AeadAlgorithm],
     buffer: &mut [u8],
     table: &mut [u16],
     answer: &mut ReplyCells,
 ) -> u64 {
-    let (buffer_len, table_len) = (buffer.len(), table.len());
-    let (buffer, table) = (buffer.as_mut_ptr(), table.as_mut_ptr());
-    // Safety: piece, buffer and table are slices, the others arrays; all but the piece are borrowed alone.
-    unsafe { ntske_feed_reply(connection, piece.as_ptr(), piece.len(), buffer, buffer_len, table, table_len, answer) }
+    let (protocols, algorithms) = (protocol_numbers(protocols), algorithm_numbers(algorithms));
+    // Safety: piece, lists, buffer and table are slices, the others arrays; all but piece and lists are borrowed alone.
+    unsafe {
+        ntske_feed_reply(
+            connection,
+            piece.as_ptr(),
+            piece.len(),
+            protocols.as_ptr(),
+            protocols.len(),
+            algorithms.as_ptr(),
+            algorithms.len(),
+            buffer.as_mut_ptr(),
+            buffer.len(),
+            table.as_mut_ptr(),
+            table.len(),
+            answer,
+        )
+    }
 }
 
 #[inline]
 pub fn close_reply(
     connection: &mut ConnectionCells,
+    protocols: &[NextProtocol],
+    algorithms: &[AeadAlgorithm],
     buffer: &mut [u8],
     table: &mut [u16],
     answer: &mut ReplyCells,
 ) -> u64 {
-    let (buffer_len, table_len) = (buffer.len(), table.len());
-    // Safety: buffer and table are slices, the others arrays; all are borrowed alone.
-    unsafe { ntske_close_reply(connection, buffer.as_mut_ptr(), buffer_len, table.as_mut_ptr(), table_len, answer) }
+    let (protocols, algorithms) = (protocol_numbers(protocols), algorithm_numbers(algorithms));
+    // Safety: lists, buffer and table are slices, the others arrays; all but the lists are borrowed alone.
+    unsafe {
+        ntske_close_reply(
+            connection,
+            protocols.as_ptr(),
+            protocols.len(),
+            algorithms.as_ptr(),
+            algorithms.len(),
+            buffer.as_mut_ptr(),
+            buffer.len(),
+            table.as_mut_ptr(),
+            table.len(),
+            answer,
+        )
+    }
 }
 
 #[inline]

@@ -56,13 +56,32 @@ pub enum Request<'m, 't> {
     },
 }
 
+/// What a client offered in its request, against which a reply is read: the lists that it gave to
+/// [`write_request`](crate::write_request). A list may be empty, or have a number twice; their order does not count.
+///
+/// Lists cannot change places:
+///
+/// ```compile_fail,E0308
+/// # use ntske::{AeadAlgorithm, NextProtocol, Offered};
+/// # fn host(protocols: &[NextProtocol], algorithms: &[AeadAlgorithm]) {
+/// let offered = Offered { protocols: algorithms, algorithms: protocols };
+/// # }
+/// ```
+#[derive(Clone, Copy, Debug, PartialEq, Eq, Hash)]
+pub struct Offered<'o> {
+    /// The protocols.
+    pub protocols: &'o [NextProtocol],
+    /// The algorithms.
+    pub algorithms: &'o [AeadAlgorithm],
+}
+
 /// A reply to a key-exchange request.
 #[derive(Clone, Copy, Debug)]
 #[non_exhaustive]
 pub struct Reply<'m, 't> {
-    /// The protocol that was chosen.
+    /// The protocol that was chosen, one of those that were offered.
     pub protocol: NextProtocol,
-    /// The algorithm that was chosen.
+    /// The algorithm that was chosen, likewise.
     pub algorithm: AeadAlgorithm,
     /// The server to ask for the time, if one is named.
     pub server: Option<Name<'m>>,
@@ -159,10 +178,23 @@ impl<'m> Message<'m> {
         Ok(Request::told(self, &answer, |count| Denied::new(self.0, table, count)))
     }
 
-    /// Reads a reply in the same way, with two cells of the table for each cookie. Refusals: 1 to 4, 7, 11 to 15.
-    pub fn reply<'t>(self, limit: u16, table: &'t mut [u16]) -> Result<Reply<'m, 't>, Refusal> {
+    /// Reads a reply in the same way, with two cells of the table for each cookie. It must answer what was asked: 17 is for
+    /// a protocol, and then for an algorithm, that is not among those offered. Refusals: 1 to 4, 7, 11 to 15, 17.
+    ///
+    /// ```
+    /// use ntske::*;
+    ///
+    /// // the client offered algorithm 15, and the reply names 17
+    /// let message = [0x80, 1, 0, 2, 0, 0, 0x80, 4, 0, 2, 0, 17, 0, 5, 0, 1, 0xAA, 0x80, 0, 0, 0];
+    /// let (protocols, algorithms) = ([NextProtocol::NTPV4], [AeadAlgorithm::AES_SIV_CMAC_256]);
+    /// let offered = Offered { protocols: &protocols, algorithms: &algorithms };
+    /// let refusal = Message::new(&message).reply(LIMIT, offered, &mut [0; 16]).unwrap_err();
+    /// assert_eq!(refusal.why, Refused::AeadNotOffered(AeadAlgorithm::AES_SIV_CMAC_512));
+    /// assert_eq!(refusal.to_string(), "refused 17 at 17: the reply's algorithm was not offered, algorithm 17");
+    /// ```
+    pub fn reply<'t>(self, limit: u16, offered: Offered<'_>, table: &'t mut [u16]) -> Result<Reply<'m, 't>, Refusal> {
         let mut answer = [0; 9];
-        read(raw::read_reply(self.0, limit, table, &mut answer))?;
+        read(raw::read_reply(self.0, limit, offered.protocols, offered.algorithms, table, &mut answer))?;
         Ok(Reply::told(self, &answer, table))
     }
 

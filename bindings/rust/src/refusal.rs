@@ -1,6 +1,6 @@
 //! What a call refuses with.
 
-use crate::{AeadAlgorithm, ErrorCode, WarningCode};
+use crate::{AeadAlgorithm, ErrorCode, NextProtocol, WarningCode};
 use core::fmt;
 
 /// Why a call refuses.
@@ -39,7 +39,11 @@ pub enum Refused {
     NoCookie,
     /// 16: the buffer of a read in pieces has no room for a byte that the read needs.
     BufferFull,
-    /// A number that this package does not know: the archive is of another version.
+    /// 17: the reply's protocol is none of those that were offered.
+    ProtocolNotOffered(NextProtocol),
+    /// 17: the reply's algorithm is none of those that were offered.
+    AeadNotOffered(AeadAlgorithm),
+    /// A refusal that this package does not know: the archive is of another version.
     Unknown {
         /// The refusal's number.
         number: u16,
@@ -49,7 +53,7 @@ pub enum Refused {
 }
 
 impl Refused {
-    /// The refusal's number: 1 to 16, or one that is not known.
+    /// The refusal's number: 1 to 17, or one that is not known.
     pub const fn number(self) -> u16 {
         match self {
             Refused::UnexpectedEof => 1,
@@ -68,16 +72,19 @@ impl Refused {
             Refused::NoOverlappingAlgorithm => 14,
             Refused::NoCookie => 15,
             Refused::BufferFull => 16,
+            Refused::ProtocolNotOffered(_) | Refused::AeadNotOffered(_) => 17,
             Refused::Unknown { number, .. } => number,
         }
     }
 
-    /// The number beside it: the algorithm of 5, the code of 11 and 12, and what is there of one that is not known.
+    /// The number beside it: the algorithm of 5, the code of 11 and 12, the protocol or the algorithm of 17, and what is
+    /// there of one that is not known.
     pub const fn beside(self) -> Option<u16> {
         match self {
-            Refused::AeadNotSupported(algorithm) => Some(algorithm.0),
+            Refused::AeadNotSupported(algorithm) | Refused::AeadNotOffered(algorithm) => Some(algorithm.0),
             Refused::Error(code) => Some(code.0),
             Refused::UnknownWarning(code) => Some(code.0),
+            Refused::ProtocolNotOffered(protocol) => Some(protocol.0),
             Refused::Unknown { beside, .. } => Some(beside),
             _ => None,
         }
@@ -102,6 +109,8 @@ impl Refused {
             Refused::NoOverlappingAlgorithm => "no algorithm in common",
             Refused::NoCookie => "no cookie",
             Refused::BufferFull => "the buffer has no room for a byte that the read needs",
+            Refused::ProtocolNotOffered(_) => "the reply's protocol was not offered",
+            Refused::AeadNotOffered(_) => "the reply's algorithm was not offered",
             Refused::Unknown { .. } => "a refusal that this package does not know",
         }
     }
@@ -122,9 +131,10 @@ impl Refused {
         }
     }
 
-    /// The refusal that a number tells, with what is beside it.
-    pub(crate) const fn told(number: u16, beside: u16) -> Self {
-        match number {
+    /// The refusal that the low sixteen bits of a word tell, with what is beside it: its number, and of 17 what was not
+    /// offered, 1 for a protocol and 2 for an algorithm, eight bits higher.
+    pub(crate) const fn told(low: u16, beside: u16) -> Self {
+        match low {
             1 => Refused::UnexpectedEof,
             2 => Refused::InvalidData,
             3 => Refused::UnrecognizedCriticalRecord,
@@ -141,7 +151,9 @@ impl Refused {
             14 => Refused::NoOverlappingAlgorithm,
             15 => Refused::NoCookie,
             16 => Refused::BufferFull,
-            number => Refused::Unknown { number, beside },
+            0x0111 => Refused::ProtocolNotOffered(NextProtocol(beside)),
+            0x0211 => Refused::AeadNotOffered(AeadAlgorithm(beside)),
+            low => Refused::Unknown { number: low & 0xFF, beside },
         }
     }
 }
@@ -152,8 +164,13 @@ impl fmt::Display for Refused {
         if let Refused::Unknown { number, .. } = self {
             write!(f, ", number {number}")?;
         }
+        let sort = match self {
+            Refused::ProtocolNotOffered(_) => "protocol",
+            Refused::AeadNotSupported(_) | Refused::AeadNotOffered(_) => "algorithm",
+            _ => "code",
+        };
         match self.beside() {
-            Some(code) => write!(f, ", code {code}"),
+            Some(number) => write!(f, ", {sort} {number}"),
             None => Ok(()),
         }
     }
@@ -172,15 +189,18 @@ pub struct Refusal {
 }
 
 impl Refusal {
-    /// Takes the word apart that a call of the archive returns: bits 0 to 15 are the refusal's number, 16 to 31 the
-    /// number beside it, and 32 to 63 the place. Nothing where the word is 0, which is what a call returns that is
-    /// accepted. 65,535, which a call returns after which a read in pieces waits, is no refusal's word and is to be told
-    /// apart before: here it is [`Refused::Unknown`].
+    /// Takes the word apart that a call of the archive returns: bits 0 to 7 are the refusal's number, 8 to 15 what was
+    /// not offered, of 17 alone (1 a protocol, 2 an algorithm), 16 to 31 the number beside it, and 32 to 63 the place.
+    /// Nothing where the word is 0, which is what a call returns that is accepted. 65,535, which a call returns after
+    /// which a read in pieces waits, is no refusal's word and is to be told apart before: here it is
+    /// [`Refused::Unknown`].
     ///
     /// ```
-    /// # use ntske::{ErrorCode, Refusal, Refused};
+    /// # use ntske::{AeadAlgorithm, ErrorCode, Refusal, Refused};
     /// let refusal = Refusal { why: Refused::Error(ErrorCode(2)), place: 6 };
     /// assert_eq!(Refusal::from_word(0x0000_0006_0002_000B), Some(refusal));
+    /// let refusal = Refusal { why: Refused::AeadNotOffered(AeadAlgorithm(15)), place: 20 };
+    /// assert_eq!(Refusal::from_word(0x0000_0014_000F_0211), Some(refusal));
     /// assert_eq!(Refusal::from_word(0), None);
     /// ```
     pub const fn from_word(word: u64) -> Option<Self> {

@@ -69,11 +69,36 @@ fn request_refused(text: &str, limit: u16, room: usize, why: Refused, place: usi
     request(text, limit, room, |read| assert_eq!(read.unwrap_err(), Refusal { why, place }), &[]);
 }
 
-fn reply(text: &str, limit: u16, room: usize, look: impl FnOnce(Result<Reply, Refusal>), table: &[u16]) {
+/// What most clients here offer.
+const USUALLY: Offered = Offered {
+    protocols: &[NextProtocol::NTPV4, NextProtocol::DRAFT_NTPV5],
+    algorithms: &[AeadAlgorithm::AES_SIV_CMAC_512, AeadAlgorithm::AES_SIV_CMAC_256],
+};
+
+/// What counts in no call but the one that answers.
+const WHATEVER: [Offered; 3] = [
+    Offered { protocols: &[], algorithms: &[] },
+    Offered { protocols: &[NextProtocol(65535)], algorithms: &[AeadAlgorithm(1), AeadAlgorithm(256)] },
+    USUALLY,
+];
+
+/// Reads a reply with what was offered, whose lists are as they were afterwards.
+fn reply_to(
+    offered: Offered,
+    text: &str,
+    limit: u16,
+    room: usize,
+    look: impl FnOnce(Result<Reply, Refusal>),
+    table: &[u16],
+) {
     let message = hex(text);
     let mut lent = cells(room);
-    look(Message::new(&message).reply(limit, lent.memory()));
+    look(Message::new(&message).reply(limit, offered, lent.memory()));
     lent.holds(0, table);
+}
+
+fn reply(text: &str, limit: u16, room: usize, look: impl FnOnce(Result<Reply, Refusal>), table: &[u16]) {
+    reply_to(USUALLY, text, limit, room, look, table);
 }
 
 fn reply_refused(text: &str, limit: u16, room: usize, why: Refused, place: usize) {
@@ -216,6 +241,50 @@ fn a_reply_is_read_or_refused() {
     reply_refused("8001 0000 8000 0000", 65535, 2, Refused::NoOverlappingProtocol, 4);
     reply_refused("8001 0002 0000 8004 0000 8000 0000", 65535, 2, Refused::NoOverlappingAlgorithm, 10);
     reply_refused(M, 65535, 2, Refused::NoCookie, 12);
+}
+
+#[test]
+fn a_reply_must_answer_what_was_asked() {
+    let one = "8001 0002 0000 8004 0002 000F 0005 0004 DEADBEEF 8000 0000";
+    let pool = "8001 0002 0000 8004 0002 0011 0005 0004 DEADBEEF 8000 0000";
+    // with the numbers of both lists: the algorithm, or the refusal
+    let read = |protocols: &[u16], algorithms: &[u16], text: &str, room: usize| {
+        let protocols: Vec<_> = protocols.iter().copied().map(NextProtocol).collect();
+        let algorithms: Vec<_> = algorithms.iter().copied().map(AeadAlgorithm).collect();
+        let offered = Offered { protocols: &protocols, algorithms: &algorithms };
+        let (message, mut table) = (hex(text), cells(room));
+        let answer = Message::new(&message).reply(LIMIT, offered, table.memory()).map(|reply| reply.algorithm.0);
+        table.holds(0, if answer.is_ok() { &[16, 4] } else { &[] });
+        answer.map_err(|refusal| (refusal.why, refusal.place))
+    };
+    let protocol = |number, place| Err((Refused::ProtocolNotOffered(NextProtocol(number)), place));
+    let algorithm = |number, place| Err((Refused::AeadNotOffered(AeadAlgorithm(number)), place));
+
+    assert_eq!(read(&[0], &[15], one, 2), Ok(15));
+    assert_eq!(read(&[0x8001, 0], &[17, 16, 15], one, 2), Ok(15));
+    assert_eq!(read(&[0, 0], &[15, 15], one, 2), Ok(15));
+    assert_eq!(read(&[0], &[15], pool, 2), algorithm(17, 20));
+    assert_eq!(read(&[0], &[17, 17], one, 2), algorithm(15, 20));
+    assert_eq!(read(&[0x8001], &[15], one, 2), protocol(0, 20));
+    assert_eq!(read(&[1, 1], &[17], one, 2), protocol(0, 20));
+    assert_eq!(read(&[15], &[0], one, 2), protocol(0, 20));
+    assert_eq!(read(&[], &[], one, 2), protocol(0, 20));
+    assert_eq!(read(&[], &[15], one, 2), protocol(0, 20));
+    assert_eq!(read(&[0], &[], one, 2), algorithm(15, 20));
+    // each byte of a number counts, and their order
+    let other = "8001 0002 1234 8004 0002 5678 0005 0004 DEADBEEF 8000 0000";
+    assert_eq!(read(&[0x1234], &[0x5678], other, 2), Ok(0x5678));
+    assert_eq!(read(&[0x3412, 0x1200, 0x34], &[0x5678], other, 2), protocol(0x1234, 20));
+    assert_eq!(read(&[0x1234], &[0x7856, 0x5600, 0x78], other, 2), algorithm(0x5678, 20));
+    // after 13 and 14, and before 15 and 7
+    assert_eq!(read(&[], &[], "8001 0000 8000 0000", 2), Err((Refused::NoOverlappingProtocol, 4)));
+    assert_eq!(read(&[], &[], "8001 0002 0000 8000 0000", 2), Err((Refused::Invalid, 6)));
+    let empty = "8001 0002 0000 8004 0000 8000 0000";
+    assert_eq!(read(&[], &[], empty, 2), Err((Refused::NoOverlappingAlgorithm, 10)));
+    assert_eq!((read(&[], &[15], M, 2), read(&[0], &[], M, 2)), (protocol(0, 12), algorithm(15, 12)));
+    assert_eq!((read(&[], &[15], one, 0), read(&[0], &[], one, 0)), (protocol(0, 20), algorithm(15, 20)));
+    assert_eq!(read(&[0], &[15], M, 0), Err((Refused::NoCookie, 12)));
+    assert_eq!(read(&[0], &[15], one, 0), Err((Refused::TableFull, 20)));
 }
 
 /// Requests and replies, accepted and refused.
@@ -399,26 +468,27 @@ fn what_is_counted_is_what_is_listed() {
 /// What a reader answers, as it is shown.
 type Shown = Result<String, Refusal>;
 
-/// A read that a host feeds, of a request or of a reply, with what it keeps and lends.
+/// A read that a host feeds, of a request or of a reply to what was offered, with what it keeps and lends.
 struct Line {
     is_reply: bool,
+    offered: Offered<'static>,
     connection: Connection,
     buffer: Lent<u8>,
 }
 
 impl Line {
     fn new(is_reply: bool, limit: u16, room: usize) -> Self {
-        Line { is_reply, connection: Connection::start(limit), buffer: bytes(room) }
+        Line { is_reply, offered: USUALLY, connection: Connection::start(limit), buffer: bytes(room) }
     }
 
     /// A piece, or where there is none the close. Nothing where the read waits.
     fn hand(&mut self, piece: Option<&[u8]>, table: &mut [u16]) -> Option<Shown> {
-        let (line, buffer) = (&mut self.connection, self.buffer.memory());
+        let (line, offered, buffer) = (&mut self.connection, self.offered, self.buffer.memory());
         match (self.is_reply, piece) {
             (false, Some(piece)) => fed(line.feed_request(piece, buffer, table)),
             (false, None) => Some(line.close_request(buffer, table).map(|read| format!("{read:?}"))),
-            (true, Some(piece)) => fed(line.feed_reply(piece, buffer, table)),
-            (true, None) => Some(line.close_reply(buffer, table).map(|read| format!("{read:?}"))),
+            (true, Some(piece)) => fed(line.feed_reply(piece, offered, buffer, table)),
+            (true, None) => Some(line.close_reply(offered, buffer, table).map(|read| format!("{read:?}"))),
         }
     }
 }
@@ -433,9 +503,14 @@ fn fed(answer: Result<Fed<impl Debug>, Refusal>) -> Option<Shown> {
 
 /// What the whole-message reader makes of a message and of the table.
 fn whole(is_reply: bool, message: &[u8], limit: u16, room: usize) -> (Shown, Vec<u16>) {
+    whole_to(USUALLY, is_reply, message, limit, room)
+}
+
+/// The same, of a reply with what was offered.
+fn whole_to(offered: Offered, is_reply: bool, message: &[u8], limit: u16, room: usize) -> (Shown, Vec<u16>) {
     let (mut table, message) = (cells(room), Message::new(message));
     let answer = if is_reply {
-        message.reply(limit, table.memory()).map(|read| format!("{read:?}"))
+        message.reply(limit, offered, table.memory()).map(|read| format!("{read:?}"))
     } else {
         message.request(limit, table.memory()).map(|read| format!("{read:?}"))
     };
@@ -443,7 +518,7 @@ fn whole(is_reply: bool, message: &[u8], limit: u16, room: usize) -> (Shown, Vec
 }
 
 /// Hands over pieces, and then the close where the read still waits; gives the answer and what is in the table. The buffer holds what was gathered
-/// and is otherwise as it was, and once there is an answer, it comes again and nothing changes.
+/// and is otherwise as it was, and once there is an answer, it comes again and nothing changes, whatever is lent and offered.
 fn in_pieces(line: &mut Line, pieces: &[&[u8]], room: usize) -> (Shown, Vec<u16>) {
     let (joined, mut table, mut handed, mut came) = (pieces.concat(), cells(room), 0, None);
     for piece in pieces {
@@ -458,7 +533,8 @@ fn in_pieces(line: &mut Line, pieces: &[&[u8]], room: usize) -> (Shown, Vec<u16>
     }
     let came = came.or_else(|| line.hand(None, table.memory())).expect("no line waits behind its close");
     let (kept, filled) = (line.connection, table.memory().to_vec());
-    for piece in [Some(&[0xFF; 5][..]), Some(&[]), None] {
+    for (piece, offered) in [Some(&[0xFF; 5][..]), Some(&[]), None].into_iter().zip(WHATEVER) {
+        line.offered = offered;
         assert_eq!(line.hand(piece, table.memory()), Some(came.clone()));
         assert_eq!(table.memory(), filled);
         let mut larger = cells(room + 8);
@@ -503,6 +579,67 @@ fn however_a_message_is_cut_its_answer_is_the_whole_readers() {
                 }
             }
         }
+    }
+}
+
+#[test]
+fn what_was_offered_counts_in_the_call_that_answers() {
+    const PROTOCOLS: [&[NextProtocol]; 3] = [&[], &[NextProtocol(0x8001)], &[NextProtocol(0), NextProtocol(0)]];
+    const ALGORITHMS: [&[AeadAlgorithm]; 3] = [&[], &[AeadAlgorithm(15)], &[AeadAlgorithm(15), AeadAlgorithm(17)]];
+    let message = hex("8001 0002 0000 8004 0002 0011 0005 0001 AA 8000 0000");
+    let mut seen = vec![];
+    for (protocols, algorithms) in PROTOCOLS.iter().flat_map(|p| ALGORITHMS.iter().map(move |a| (*p, *a))) {
+        let offered = Offered { protocols, algorithms };
+        for room in [0, 2] {
+            let want = whole_to(offered, true, &message, LIMIT, room);
+            for (at, other) in (0..message.len()).flat_map(|at| WHATEVER.map(|other| (at, other))) {
+                // before the piece that decides something else is offered, and after it, too
+                let (mut line, mut table) = (Line::new(true, LIMIT, 64), cells(room));
+                line.offered = other;
+                assert_eq!(line.hand(Some(&message[..at]), table.memory()), None);
+                line.offered = offered;
+                let came = (line.hand(Some(&message[at..]), table.memory()), table.memory().to_vec());
+                let (kept, want) = (line.connection, (Some(want.0.clone()), want.1.clone()));
+                assert_eq!(came, want, "{offered:?}, cut at {at}, before it {other:?}");
+                for (piece, other) in [Some(&message[..]), Some(&[]), None].into_iter().zip(WHATEVER) {
+                    line.offered = other;
+                    assert_eq!((line.hand(piece, table.memory()), table.memory().to_vec()), want);
+                    assert_eq!(line.connection, kept);
+                }
+            }
+            seen.push(want.0.map(|_| 0).unwrap_or_else(|refusal| refusal.why.number()));
+        }
+    }
+    assert_eq!(seen, [vec![17; 12], vec![17; 4], vec![7, 0]].concat());
+}
+
+#[test]
+fn a_connection_holds_what_was_not_offered() {
+    let (protocols, algorithms) = ([NextProtocol(0)], [AeadAlgorithm(15)]);
+    let message = hex("8001 0002 0000 8004 0002 0011 0005 0001 AA 8000 0000");
+    for (offered, why, cells) in [
+        (
+            Offered { protocols: &protocols, algorithms: &algorithms },
+            Refused::AeadNotOffered(AeadAlgorithm(17)),
+            "number: 529, beside: 17, place: 17",
+        ),
+        (
+            Offered { protocols: &[], algorithms: &algorithms },
+            Refused::ProtocolNotOffered(NextProtocol(0)),
+            "number: 273, beside: 0, place: 17",
+        ),
+    ] {
+        let (mut buffer, mut table) = ([0; 64], [0; 8]);
+        let mut line = Connection::start(4096);
+        let refusal = Refusal { why, place: 17 };
+        assert_eq!(line.feed_reply(&message, offered, &mut buffer, &mut table).unwrap_err(), refusal);
+        let shown = format!("Connection {{ limit: 4096, gathered: 21, begins: 17, met: 50, state: 2, {cells} }}");
+        assert_eq!(format!("{line:?}"), shown);
+        // it comes again where all is offered, and from the calls of a request, too
+        assert_eq!(line.feed_reply(&message, USUALLY, &mut buffer, &mut table).unwrap_err(), refusal);
+        assert_eq!(line.close_reply(USUALLY, &mut buffer, &mut table).unwrap_err(), refusal);
+        assert_eq!(line.feed_request(&message, &mut buffer, &mut table).unwrap_err(), refusal);
+        assert_eq!((format!("{line:?}"), table), (shown, [0; 8]));
     }
 }
 
@@ -554,8 +691,8 @@ fn a_connection_is_kept_and_copied() {
     let no_value = Refusal { why: Refused::InvalidValue, place: 0 };
     assert_eq!(line.feed_request(&message[7..], &mut buffer[..6], &mut table).unwrap_err(), no_value);
     assert_eq!(line.close_request(&mut buffer[..6], &mut table).unwrap_err(), no_value);
-    assert_eq!(line.feed_reply(&message[7..], &mut buffer[..6], &mut table).unwrap_err(), no_value);
-    assert_eq!(line.close_reply(&mut buffer[..6], &mut table).unwrap_err(), no_value);
+    assert_eq!(line.feed_reply(&message[7..], USUALLY, &mut buffer[..6], &mut table).unwrap_err(), no_value);
+    assert_eq!(line.close_reply(USUALLY, &mut buffer[..6], &mut table).unwrap_err(), no_value);
     assert_eq!(line, kept);
 
     // two ways on from one state
@@ -705,7 +842,7 @@ fn iterators_tell_how_many_are_left() {
     counts(denied.into_iter(), 3);
     assert_eq!(format!("{:?}", denied.iter()), r#"["a.b", "", "c"]"#);
     let cookies = hex("8001 0002 0000 8004 0002 000F 0005 0001 AA 0005 0000 8000 0000");
-    let reply = Message::new(&cookies).reply(65535, &mut table).unwrap();
+    let reply = Message::new(&cookies).reply(65535, USUALLY, &mut table).unwrap();
     counts(reply.cookies.iter(), 2);
     assert_eq!(format!("{:?}", reply.cookies.iter()), "[Cookie(1 bytes), Cookie(0 bytes)]");
 }
@@ -931,8 +1068,8 @@ fn a_request_is_written() {
     lent.holds(0, &hex("02 0003 612E62 02 0000"));
 }
 
-/// The refusals that the package knows, in the order of their numbers.
-const REFUSALS: [Refused; 16] = [
+/// The refusals that the package knows, in the order of their numbers; of 17 there are two.
+const REFUSALS: [Refused; 18] = [
     Refused::UnexpectedEof,
     Refused::InvalidData,
     Refused::UnrecognizedCriticalRecord,
@@ -949,25 +1086,41 @@ const REFUSALS: [Refused; 16] = [
     Refused::NoOverlappingAlgorithm,
     Refused::NoCookie,
     Refused::BufferFull,
+    Refused::ProtocolNotOffered(NextProtocol(16)),
+    Refused::AeadNotOffered(AeadAlgorithm(16)),
 ];
 
 #[test]
 fn each_refusal_has_its_number_and_words() {
-    assert!(REFUSALS.iter().map(|why| why.number()).eq(1..=16));
+    assert!(REFUSALS.iter().map(|why| why.number()).eq((1..=17).chain([17])));
     let beside: Vec<_> = REFUSALS.iter().filter(|why| why.beside() == Some(16)).map(|why| why.number()).collect();
-    assert_eq!((beside, REFUSALS.iter().filter_map(|why| why.beside()).count()), (vec![5, 11, 12], 3));
+    assert_eq!((beside, REFUSALS.iter().filter_map(|why| why.beside()).count()), (vec![5, 11, 12, 17, 17], 5));
 
-    // the header's words are the same, behind the one for what is accepted
-    let table = HEADER.split_once("words[] = {").unwrap().1.split_once("};").unwrap().0;
-    let words: Vec<_> = table.split('"').skip(1).step_by(2).collect();
-    assert_eq!(words[1..], REFUSALS.map(Refused::words));
+    // the header's words are the same, behind the one for what is accepted and before the one for a bare 17; those of 17 stand apart
+    let table = |name: &str| -> Vec<&str> {
+        let table = HEADER.split_once(&format!(" {name}[] = {{")).unwrap().1.split_once("};").unwrap().0;
+        table.split('"').skip(1).step_by(2).collect()
+    };
+    assert_eq!(table("words")[1..17], REFUSALS[..16].iter().map(|why| why.words()).collect::<Vec<_>>());
+    assert_eq!(table("not_offered"), [REFUSALS[16].words(), REFUSALS[17].words()]);
 
     let codes: Vec<_> = REFUSALS.iter().map(|why| why.error_code().0).collect();
-    assert_eq!(codes, [1, 1, 0, 1, 1, 1, 2, 2, 2, 2, 2, 2, 2, 2, 2, 2]);
+    assert_eq!(codes, [1, 1, 0, 1, 1, 1, 2, 2, 2, 2, 2, 2, 2, 2, 2, 2, 2, 2]);
 
     let refusal = Refusal { why: Refused::Error(ErrorCode(0)), place: 7 };
     assert_eq!(refusal.to_string(), "refused 11 at 7: the reply has an error record, code 0");
     assert_eq!(Refused::NoCookie.to_string(), "no cookie");
+    let shown: Vec<_> = REFUSALS.iter().filter(|why| why.beside().is_some()).map(|why| why.to_string()).collect();
+    assert_eq!(
+        shown,
+        [
+            "the algorithm is not 15 or 17, algorithm 16",
+            "the reply has an error record, code 16",
+            "the reply has a warning record, code 16",
+            "the reply's protocol was not offered, protocol 16",
+            "the reply's algorithm was not offered, algorithm 16",
+        ]
+    );
     let errors: [Box<dyn std::error::Error>; 2] = [refusal.into(), refusal.why.into()];
     assert_eq!(errors[1].to_string(), "the reply has an error record, code 0");
 }
@@ -975,12 +1128,15 @@ fn each_refusal_has_its_number_and_words() {
 #[test]
 fn a_word_is_taken_apart() {
     assert_eq!(Refusal::from_word(0), None);
-    for number in 0..=u16::MAX {
-        let refusal = Refusal::from_word(u64::from(number) | 16 << 16 | 0xFFFF_FFFF << 32).unwrap();
-        assert_eq!((refusal.why.number(), refusal.place), (number, 0xFFFF_FFFF));
-        match REFUSALS.get(usize::from(number).wrapping_sub(1)) {
-            Some(known) => assert_eq!(refusal.why, *known),
-            None => assert_eq!(refusal.why, Refused::Unknown { number, beside: 16 }),
+    // bits 0 to 7 are the number, and bits 8 to 15 tell the two of 17 apart
+    for low in 0..=u16::MAX {
+        let refusal = Refusal::from_word(u64::from(low) | 16 << 16 | 0xFFFF_FFFF << 32).unwrap();
+        assert_eq!((refusal.why.number(), refusal.place), (low & 0xFF, 0xFFFF_FFFF));
+        match low {
+            1..=16 => assert_eq!(refusal.why, REFUSALS[usize::from(low) - 1]),
+            0x0111 => assert_eq!(refusal.why, Refused::ProtocolNotOffered(NextProtocol(16))),
+            0x0211 => assert_eq!(refusal.why, Refused::AeadNotOffered(AeadAlgorithm(16))),
+            _ => assert_eq!(refusal.why, Refused::Unknown { number: low & 0xFF, beside: 16 }),
         }
     }
     let unknown = Refusal::from_word(0x0000_0007_0003_0063).unwrap();
@@ -1080,7 +1236,7 @@ fn no_secret_is_shown() {
     plan.append(&secret).unwrap().append(&secret).unwrap();
     hides(&plan, &secret);
     let written = plan.write(None, &mut out).unwrap();
-    let reply = Message::new(written).reply(LIMIT, &mut table).unwrap();
+    let reply = Message::new(written).reply(LIMIT, USUALLY, &mut table).unwrap();
     assert_eq!(reply.cookies.get(1).unwrap().bytes(), secret);
     hides(reply, &secret);
     hides(reply.cookies, &secret);

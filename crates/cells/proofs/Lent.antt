@@ -5,15 +5,15 @@ use mathlib.Core.List.{List, [], _∷_}
 use Prim.Native.Nat.{ℕ, _+_, _*_, _/_, _%_, _<_, _≤_}
 use native.Mathlib.Omega.{arith}
 use Rattle.wire.specs.Over.{over}
-use Rattle.nts.specs.Refusal.{Beside, Refused}
+use Rattle.nts.specs.Refusal.{Beside, nothing, code, protocol, algorithm, besideNumber, Refused}
 use Rattle.layout.specs.Write.{Count, bytes, refused, fitted, toldCount, leftBy, Wrote}
 use Rattle.layout.specs.declared.ByteCount.{ByteCount}
-use Rattle.cells.specs.Cells.{besideNumber, word, unplaced, Given, cells, refuses, Gives, counted, Writes}
+use Rattle.cells.specs.Cells.{sortOf, marked, word, unplaced, Given, cells, refuses, Gives, counted, Writes}
 
 -- a word is the sum of what was found for it
-pub adds-up : {n k m : ℕ} (b : Beside) (place : ℕ) → n ≡ k → m ≡ besideNumber b → n + 65536 * m + 4294967296 * place ≡ word (record { number = k; beside = b; place = place })
+pub adds-up : {n m : ℕ} (k : ℕ) (b : Beside) (place : ℕ) → n ≡ marked k b → m ≡ besideNumber b → n + 65536 * m + 4294967296 * place ≡ word (record { number = k; beside = b; place = place })
 unfolding word
-adds-up b place p q = rw (p, q)
+adds-up k b place p q = rw (p, q)
 
 -- the word and the cells are those of what a callee told, whatever its contract calls that
 pub given : {T : Type 0} (f : T → Given) {t u : T} {lent after : List ℕ} {r : ℕ} → t ≡ u → Gives (f t) lent r after → Gives (f u) lent r after
@@ -54,16 +54,27 @@ unfolding leftBy
 writes-kept {a = bytes n} p h = absurd (h (p .gives .says))
 writes-kept {a = refused k b} p h = (p .wrote, p .gives .left)
 
+sort-small : (b : Beside) → sortOf b ≤ 2
+sort-small nothing = omega arith
+sort-small (code n) = omega arith
+sort-small (protocol p) = omega arith
+sort-small (algorithm a) = omega arith
+
 -- it tells the number ..
-pub number-in : (y : Refused) → y .number < 65536 → word y % 65536 ≡ y .number
+pub number-in : (y : Refused) → y .number < 256 → word y % 256 ≡ y .number
 unfolding word
 number-in y n = omega arith
 
--- .. and, where the number beside it has sixteen bits, that and the place
-pub apart : (y : Refused) → y .number < 65536 → besideNumber (y .beside) < 65536
-    → (word y % 65536 ≡ y .number) × (word y / 65536 % 65536 ≡ besideNumber (y .beside)) × (word y / 4294967296 ≡ y .place)
+-- .. with what was not offered ..
+pub mark-in : (y : Refused) → y .number < 256 → word y % 65536 ≡ marked (y .number) (y .beside)
 unfolding word
-apart y n b = (number-in y n, omega arith, omega arith)
+mark-in y n = let l = sort-small (y .beside) in omega arith
+
+-- .. and, where the number beside it has sixteen bits, what was not offered, that and the place
+pub apart : (y : Refused) → y .number < 256 → besideNumber (y .beside) < 65536
+    → (word y % 256 ≡ y .number) × (word y / 256 % 256 ≡ sortOf (y .beside)) × (word y / 65536 % 65536 ≡ besideNumber (y .beside)) × (word y / 4294967296 ≡ y .place)
+unfolding word
+apart y n b = let l = sort-small (y .beside) in (number-in y n, omega arith, omega arith, omega arith)
 
 -- ---- a word that is 0
 

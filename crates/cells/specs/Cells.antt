@@ -5,19 +5,25 @@ use mathlib.Core.Path.{_≡_}
 use mathlib.Core.List.{List, [], _∷_}
 use mathlib.Core.Bool.{Bool, cond}
 use lib.ListN.{getD}
-use Rattle.nts.specs.Refusal.{Beside, nothing, code, Refused}
+use Rattle.nts.specs.Refusal.{Beside, nothing, code, protocol, algorithm, besideNumber, Refused}
 use Rattle.layout.specs.Write.{Count, bytes, refused, leftBy}
 
 -- ---- the word of a refusal
 
--- the number beside it, 0 for none: 5, 11 and 12 have one, and no other number has
-abbrev pub besideNumber : Beside → ℕ
-besideNumber nothing = 0
-besideNumber (code c) = c
+-- what was not offered, of 17: 1 for a protocol, 2 for an algorithm; 0 for every other refusal, whose number tells what is beside it
+abbrev pub sortOf : Beside → ℕ
+sortOf nothing = 0
+sortOf (code n) = 0
+sortOf (protocol p) = 1
+sortOf (algorithm a) = 2
 
--- bits 0 to 15 are its number, bits 16 to 31 the number beside it, and bits 32 to 63 its place
+-- a refusal's number, in bits 0 to 7, and that, in bits 8 to 15
+abbrev pub marked : ℕ → Beside → ℕ
+marked n b = n + 256 * sortOf b
+
+-- behind them, bits 16 to 31 are the number beside it, 0 for none, and bits 32 to 63 its place
 unfoldable pub word : Refused → ℕ
-word r = r .number + 65536 * besideNumber (r .beside) + 4294967296 * r .place
+word r = marked (r .number) (r .beside) + 65536 * besideNumber (r .beside) + 4294967296 * r .place
 
 -- a refusal that has no place, or whose place is the caller's own argument
 abbrev pub unplaced : ℕ → Beside → Refused

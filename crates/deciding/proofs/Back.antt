@@ -6,12 +6,12 @@ use mathlib.Core.Bool.{Bool, true, false, true≢false}
 use Prim.Native.Nat.{ℕ, zero, suc, _+_, _-_, _<_, _≤_}
 use native.Mathlib.Omega.{arith}
 use lib.ListN.{length, take}
-use Rattle.nts.specs.Refusal.{Beside, nothing, code, Refused}
+use Rattle.nts.specs.Refusal.{Beside, nothing, code, protocol, algorithm, Refused}
 use Rattle.walk.specs.Walk.{Outcome, stopped, ended, walk}
 use Rattle.walk.specs.Shown.{shown, counted}
 use Rattle.walk.specs.Found.{Way, wayRefused, wayEnded, wayOf}
 use Rattle.walk.specs.Finding.{Found, foundBy}
-use Rattle.walk.proofs.Numbered.{coded, Fits}
+use Rattle.walk.proofs.Numbered.{bareNumber, bare-not, Fits}
 use Rattle.walk.proofs.Telling.{told-stands}
 use Rattle.request.specs.Request.{reader}
 use Rattle.request.proofs.Numbered.{stop-numbered}
@@ -33,14 +33,16 @@ way-back r h b = go (r .number) refl
     go zero e = absurd (omega arith)
     go (suc n) e = ap wayRefused (sym (λ i. record { number = e i; beside = b i; place = r .place }))
 
-bare : (n : ℕ) (b : Beside) → coded n ≡ false → Fits n b → b ≡ nothing
+bare : (n : ℕ) (b : Beside) → bareNumber n ≡ true → Fits n b → b ≡ nothing
 bare n nothing c f = refl
-bare n (code x) c f = absurd (true≢false (sym f ∙ c))
+bare n (code x) c f = absurd (true≢false (sym f ∙ bare-not n c .0))
+bare n (protocol x) c f = absurd (true≢false (sym f ∙ bare-not n c .1))
+bare n (algorithm x) c f = absurd (true≢false (sym f ∙ bare-not n c .1))
 
 module _ (m : List ℕ) (n : ℕ) where
   way-told : (o : Outcome) → walk reader [] 0 0 (take n m) ≡ o → wayIn (placeCell (wayOf o)) (reasonCell (wayOf o)) ≡ wayOf o
   way-told (stopped r) e =
-      let k = stop-numbered (λ n. (1 ≤ n) × (coded n ≡ false)) ((omega arith, refl), (omega arith, refl), (omega arith, refl), (omega arith, refl)) (take n m) r e in
+      let k = stop-numbered (λ n. (1 ≤ n) × (bareNumber n ≡ true)) ((omega arith, refl), (omega arith, refl), (omega arith, refl), (omega arith, refl)) (take n m) r e in
       way-back r (k .one .0) (bare (r .number) (r .beside) (k .one .1) (k .fits))
   way-told (ended at next st) e = refl
 

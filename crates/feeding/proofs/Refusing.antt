@@ -10,7 +10,7 @@ use lib.ListN.{length, take, drop, length-take}
 use Rattle.nts.specs.Refusal.{nothing, Refused}
 use Rattle.walk.specs.Walk.{Reader}
 use Rattle.walk.specs.Judge as judge
-use Rattle.walk.specs.Judge.{readBy}
+use Rattle.walk.specs.Judge.{Terms, roomFor, readBy}
 use Rattle.walk.proofs.Within.{refused-within}
 use Rattle.request.specs.Request as requests
 use Rattle.reply.specs.Reply as replies
@@ -24,7 +24,7 @@ pub data Cause (X : Read) (c : Line) (r : Refused) : Type 0 where
   broke : record { number = 9; beside = nothing; place = 0 } ≡ r → Cause X c r
   filled : (n : ℕ) → n ≤ c .limit → record { number = 16; beside = nothing; place = n } ≡ r → Cause X c r
   kept : c .standing ≡ refused r → Cause X c r
-  read : (s : List ℕ) (room : ℕ) → readBy (X .reader) (X .judging) s (record { limit = c .limit; room = room }) ≡ judge.refused r → Cause X c r
+  read : (s : List ℕ) (x : Terms) → readBy (X .reader) (X .judging) s (record { limit = c .limit; terms = x }) ≡ judge.refused r → Cause X c r
 
 answer-same : {Q : Type 0 → Type 0} (a b : judge.Answer Q) → answers a ≡ answers b → a ≡ b
 answer-same a b e = cc
@@ -44,29 +44,29 @@ unfilled-within R c b h e =
     omega (arith, g, length-take (comes R c b h .gathered) (joined c b h), length-take (length b) (inside c b h), length-take (c .limit) (joined c b h))
 
 -- what follows of each cause follows of a refusal; H holds of the bytes that were read: of those joined, as far as they are gathered, or of those gathered before
-pub refused-of : (X : Read) (c : Line) (b : List ℕ) (h : Brought) (room : ℕ) (r : Refused) (H : List ℕ → Type 0) {A : Type 0}
+pub refused-of : (X : Read) (c : Line) (b : List ℕ) (h : Brought) (x : Terms) (r : Refused) (H : List ℕ → Type 0) {A : Type 0}
     → ((n : ℕ) → H (take n (joined c b h))) → H (take (c .gathered) b)
     → (record { number = 9; beside = nothing; place = 0 } ≡ r → A)
     → ((n : ℕ) → n ≤ c .limit → record { number = 16; beside = nothing; place = n } ≡ r → A)
     → (c .standing ≡ refused r → A)
-    → ((s : List ℕ) (cells : ℕ) → H s → readBy (X .reader) (X .judging) s (record { limit = c .limit; room = cells }) ≡ judge.refused r → A)
-    → answerOf X c b h room ≡ answers (judge.refused r) → A
+    → ((s : List ℕ) (y : Terms) → H s → readBy (X .reader) (X .judging) s (record { limit = c .limit; terms = y }) ≡ judge.refused r → A)
+    → answerOf X c b h x ≡ answers (judge.refused r) → A
 unfolding answerOf firstAnswer again
-refused-of X c b h room r H {A} joins holds nine sixteen stays reads e = go (broken c b) (c .standing) refl e
+refused-of X c b h x r H {A} joins holds nine sixteen stays reads e = go (broken c b) (c .standing) refl e
   where
-    first : (w : How) → comes (X .reader) c b h .how ≡ w → answerAfter X (c .limit) w (take (comes (X .reader) c b h .gathered) (joined c b h)) room ≡ answers (judge.refused r) → A
+    first : (w : How) → comes (X .reader) c b h .how ≡ w → answerAfter X (c .limit) w (take (comes (X .reader) c b h .gathered) (joined c b h)) x ≡ answers (judge.refused r) → A
     first waiting p q = let z : _≡_ {A = ℕ} 0 1 = cc in absurd (omega arith)
     first noRoom p q = sixteen (length (take (comes (X .reader) c b h .gathered) (joined c b h))) (unfilled-within (X .reader) c b h p) (refusal-same _ r q)
-    first decided p q = reads (take (comes (X .reader) c b h .gathered) (joined c b h)) room (joins (comes (X .reader) c b h .gathered)) (answer-same _ _ q)
+    first decided p q = reads (take (comes (X .reader) c b h .gathered) (joined c b h)) x (joins (comes (X .reader) c b h .gathered)) (answer-same _ _ q)
 
-    go : (t : Bool) (s : Standing) → c .standing ≡ s → cond t (refusedAt 9 0) (byStanding s (firstAnswer X c b h room) (again X c b) (λ y. answers (judge.refused y))) ≡ answers (judge.refused r) → A
+    go : (t : Bool) (s : Standing) → c .standing ≡ s → cond t (refusedAt 9 0) (byStanding s (firstAnswer X c b h x) (again X c b) (λ y. answers (judge.refused y))) ≡ answers (judge.refused r) → A
     go true s p q = nine (refusal-same _ r q)
     go false pending p q = first (comes (X .reader) c b h .how) refl q
-    go false accepted p q = reads (take (c .gathered) b) (c .gathered) holds (answer-same _ _ q)
+    go false accepted p q = reads (take (c .gathered) b) (roomFor (c .gathered)) holds (answer-same _ _ q)
     go false (refused y) p q = stays (p ∙ ap refused (refusal-same y r q))
 
-pub refused-by : (X : Read) (c : Line) (b : List ℕ) (h : Brought) (room : ℕ) (r : Refused) → answerOf X c b h room ≡ answers (judge.refused r) → Cause X c r
-refused-by X c b h room r e = refused-of X c b h room r (λ s. Unit {0}) (λ n. tt) tt broke filled kept (λ s cells i q. read s cells q) e
+pub refused-by : (X : Read) (c : Line) (b : List ℕ) (h : Brought) (x : Terms) (r : Refused) → answerOf X c b h x ≡ answers (judge.refused r) → Cause X c r
+refused-by X c b h x r e = refused-of X c b h x r (λ s. Unit {0}) (λ n. tt) tt broke filled kept (λ s y i q. read s y q) e
 
 -- ---- by what is told
 
@@ -84,13 +84,13 @@ pub reply-tells : Tells replyRead replies.refusedWith
 reply-tells m (judge.refused y) r e = let z : y ≡ r = cc in ap (λ s. judge.refused s) z
 reply-tells m (judge.accepted (replies.reply p a s t k c)) r e = let z : _≡_ {A = ℕ} 0 1 = cc in absurd (omega arith)
 
-pub told-by : (X : Read) (refuse : Refused → X .Told) → Tells X refuse → (c : Line) (b : List ℕ) (h : Brought) (room : ℕ) (m : List ℕ) (r : Refused)
-    → says (refuse r) ≡ saysOf X m (answerOf X c b h room) → Cause X c r
-told-by X refuse tells c b h room m r e = go (answerOf X c b h room) refl e
+pub told-by : (X : Read) (refuse : Refused → X .Told) → Tells X refuse → (c : Line) (b : List ℕ) (h : Brought) (x : Terms) (m : List ℕ) (r : Refused)
+    → says (refuse r) ≡ saysOf X m (answerOf X c b h x) → Cause X c r
+told-by X refuse tells c b h x m r e = go (answerOf X c b h x) refl e
   where
-    go : (a : Fed (X .judging .Q)) → answerOf X c b h room ≡ a → says (refuse r) ≡ saysOf X m a → Cause X c r
+    go : (a : Fed (X .judging .Q)) → answerOf X c b h x ≡ a → says (refuse r) ≡ saysOf X m a → Cause X c r
     go none p q = let z : _≡_ {A = ℕ} 0 1 = cc in absurd (omega arith)
-    go (answers a) p q = let z : refuse r ≡ X .tells m a = cc in refused-by X c b h room r (p ∙ ap (λ x. answers x) (tells m a r z))
+    go (answers a) p q = let z : refuse r ≡ X .tells m a = cc in refused-by X c b h x r (p ∙ ap (λ y. answers y) (tells m a r z))
 
 -- ---- its place
 
@@ -98,4 +98,4 @@ pub place-within : (X : Read) (c : List ℕ) (r : Refused) → isConnection c �
 place-within X c r e (broke q) = omega (arith, ap (λ (x : Refused). x .place) q)
 place-within X c r e (filled n l q) = omega (arith, ap (λ (x : Refused). x .place) q, line-sound c e .limit)
 place-within X c r e (kept q) = omega (arith, ap (λ (x : Refused). x .place) (standing-held (cell c 4) (cell c 5) (cell c 6) (cell c 7) r q), line-sound c e .place)
-place-within X c r e (read s room q) = omega (arith, refused-within (X .reader) (X .judging) s (record { limit = lineIn c .limit; room = room }) r q, line-sound c e .limit)
+place-within X c r e (read s x q) = omega (arith, refused-within (X .reader) (X .judging) s (record { limit = lineIn c .limit; terms = x }) r q, line-sound c e .limit)

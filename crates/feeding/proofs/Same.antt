@@ -20,8 +20,8 @@ ntske-feed-request-same κs a r r′ e e′ p q = feeds-same p q
 pub ntske-close-request-same : (κs : _) (a : _) (r r′ : _) (e e′ : _) → close-request.Learnt κs a r e → close-request.Learnt κs a r′ e′ → (r ≡ r′) × (now (e .0) ≡ now (e′ .0)) × (now (e .1 .0) ≡ now (e′ .1 .0)) × (now (e .1 .1 .0) ≡ now (e′ .1 .1 .0)) × (now (e .1 .1 .1 .0) ≡ now (e′ .1 .1 .1 .0))
 ntske-close-request-same κs a r r′ e e′ p q = feeds-same p q
 
-pub ntske-feed-reply-same : (κs : _) (a : _) (r r′ : _) (e e′ : _) → feed-reply.Learnt κs a r e → feed-reply.Learnt κs a r′ e′ → (r ≡ r′) × (now (e .0) ≡ now (e′ .0)) × (now (e .1 .1 .0) ≡ now (e′ .1 .1 .0)) × (now (e .1 .1 .1 .0) ≡ now (e′ .1 .1 .1 .0)) × (now (e .1 .1 .1 .1 .0) ≡ now (e′ .1 .1 .1 .1 .0))
+pub ntske-feed-reply-same : (κs : _) (a : _) (r r′ : _) (e e′ : _) → feed-reply.Learnt κs a r e → feed-reply.Learnt κs a r′ e′ → (r ≡ r′) × (now (e .0) ≡ now (e′ .0)) × (now (e .1 .1 .1 .1 .0) ≡ now (e′ .1 .1 .1 .1 .0)) × (now (e .1 .1 .1 .1 .1 .0) ≡ now (e′ .1 .1 .1 .1 .1 .0)) × (now (e .1 .1 .1 .1 .1 .1 .0) ≡ now (e′ .1 .1 .1 .1 .1 .1 .0))
 ntske-feed-reply-same κs a r r′ e e′ p q = feeds-same p q
 
-pub ntske-close-reply-same : (κs : _) (a : _) (r r′ : _) (e e′ : _) → close-reply.Learnt κs a r e → close-reply.Learnt κs a r′ e′ → (r ≡ r′) × (now (e .0) ≡ now (e′ .0)) × (now (e .1 .0) ≡ now (e′ .1 .0)) × (now (e .1 .1 .0) ≡ now (e′ .1 .1 .0)) × (now (e .1 .1 .1 .0) ≡ now (e′ .1 .1 .1 .0))
+pub ntske-close-reply-same : (κs : _) (a : _) (r r′ : _) (e e′ : _) → close-reply.Learnt κs a r e → close-reply.Learnt κs a r′ e′ → (r ≡ r′) × (now (e .0) ≡ now (e′ .0)) × (now (e .1 .1 .1 .0) ≡ now (e′ .1 .1 .1 .0)) × (now (e .1 .1 .1 .1 .0) ≡ now (e′ .1 .1 .1 .1 .0)) × (now (e .1 .1 .1 .1 .1 .0) ≡ now (e′ .1 .1 .1 .1 .1 .0))
 ntske-close-reply-same κs a r r′ e e′ p q = feeds-same p q

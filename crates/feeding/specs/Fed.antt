@@ -4,20 +4,21 @@ use mathlib.Core.Path.{_≡_}
 use mathlib.Core.List.{List, [], _∷_}
 use mathlib.Core.Bool.{Bool, cond, _&&_, _||_}
 use lib.Dec.{leb, ltb, eqb}
-use Rattle.nts.specs.Refusal.{Beside, nothing, code, Refused}
-use Rattle.places.specs.Places.{roomOf}
+use Rattle.nts.specs.Refusal.{Beside, nothing, code, protocol, algorithm, besideNumber, Refused}
+use Rattle.walk.specs.Judge.{Terms}
 use Rattle.pieces.specs.Pieces as pieces
 use Rattle.pieces.specs.Pieces.{Standing, pending, accepted, refused, Line, Brought, Read, Says, nothingYet, says, saysOf, held, answerOf, lineAfter, bufferAfter, tableAfter}
 use Rattle.cells.specs.Cells as given
-use Rattle.cells.specs.Cells.{besideNumber, word, unplaced, Given, returned, cell}
+use Rattle.cells.specs.Cells.{marked, word, unplaced, Given, returned, cell}
 
 -- ---- the cells
 
--- whether there is an answer, 0 for none, 1 for accepted, 2 for refused; and of a refusal its number, the number beside it, and its place
+-- whether there is an answer, 0 for none, 1 for accepted, 2 for refused; and of a refusal its number with what was not offered, as in its word, the number beside
+-- it, and its place
 abbrev pub standingCells : Standing → List ℕ
 standingCells pending = 0 ∷ 0 ∷ 0 ∷ 0 ∷ []
 standingCells accepted = 1 ∷ 0 ∷ 0 ∷ 0 ∷ []
-standingCells (refused r) = 2 ∷ r .number ∷ besideNumber (r .beside) ∷ r .place ∷ []
+standingCells (refused r) = 2 ∷ marked (r .number) (r .beside) ∷ besideNumber (r .beside) ∷ r .place ∷ []
 
 -- before that the limit, the bytes gathered, where the record that is being gathered begins, and the kinds met
 abbrev pub lineCells : Line → List ℕ
@@ -25,26 +26,40 @@ lineCells c = c .limit ∷ c .gathered ∷ c .begins ∷ c .met ∷ standingCell
 
 -- ---- the connection that cells hold
 
--- 5, 11 and 12 have a number beside them
+-- of 1 to 16, these have a number beside them; both of 17 have one as well
 unfoldable pub hasBeside : ℕ → Bool
 hasBeside n = eqb n 5 || eqb n 11 || eqb n 12
 
--- what was refused has a number from 1 to 16, one of sixteen bits beside it if it has any, and a place of thirty-two; what was not has none of them
+-- a refusal's number, with what was not offered: 17 and a protocol, 17 and an algorithm
+abbrev pub noProtocol : ℕ
+noProtocol = 273
+
+abbrev pub noAlgorithm : ℕ
+noAlgorithm = 529
+
+unfoldable pub isMark : ℕ → Bool
+isMark n = (leb 1 n && leb n 16) || eqb n noProtocol || eqb n noAlgorithm
+
+-- what was refused has such a number, one of sixteen bits beside it if it has any, and a place of thirty-two; what was not has none of them
 unfoldable pub isStanding : ℕ → ℕ → ℕ → ℕ → Bool
 isStanding s n x p =
     cond (ltb s 2)
     (eqb n 0 && eqb x 0 && eqb p 0)
-    (eqb s 2 && leb 1 n && leb n 16 && leb x 65535 && (eqb x 0 || hasBeside n) && leb p 4294967295)
+    (eqb s 2 && isMark n && leb x 65535 && (eqb x 0 || hasBeside n || leb noProtocol n) && leb p 4294967295)
 
 -- sixteen bits for the limit and for the kinds met
 unfoldable pub isConnection : List ℕ → Bool
 isConnection c = leb (cell c 0) 65535 && leb (cell c 3) 65535 && isStanding (cell c 4) (cell c 5) (cell c 6) (cell c 7)
 
+-- the number, and what is beside it
+abbrev pub numberIn : ℕ → ℕ
+numberIn n = cond (leb noProtocol n) 17 n
+
 abbrev pub besideIn : ℕ → ℕ → Beside
-besideIn n x = cond (hasBeside n) (code x) nothing
+besideIn n x = cond (eqb n noProtocol) (protocol x) (cond (eqb n noAlgorithm) (algorithm x) (cond (hasBeside n) (code x) nothing))
 
 abbrev pub standingIn : ℕ → ℕ → ℕ → ℕ → Standing
-standingIn s n x p = cond (eqb s 0) pending (cond (eqb s 1) accepted (refused (record { number = n; beside = besideIn n x; place = p })))
+standingIn s n x p = cond (eqb s 0) pending (cond (eqb s 1) accepted (refused (record { number = numberIn n; beside = besideIn n x; place = p })))
 
 abbrev pub lineIn : List ℕ → Line
 lineIn c = record { limit = cell c 0; gathered = cell c 1; begins = cell c 2; met = cell c 3; standing = standingIn (cell c 4) (cell c 5) (cell c 6) (cell c 7) }
@@ -61,15 +76,15 @@ abbrev pub fedCells : {T : Type 0} → (T → Given) → Says T → List ℕ →
 fedCells f nothingYet lent = lent
 fedCells f (says t) lent = given.held (f t) lent
 
--- of the connection c with the buffer b and room for so many records in the table
-abbrev pub saysIn : (X : Read) → Line → List ℕ → Brought → ℕ → Says (X .Told)
-saysIn X c b h room = saysOf X (held (lineAfter X c b h room) (bufferAfter X c b h)) (answerOf X c b h room)
+-- of the connection c with the buffer b, under what is lent beside them
+abbrev pub saysIn : (X : Read) → Line → List ℕ → Brought → Terms → Says (X .Told)
+saysIn X c b h x = saysOf X (held (lineAfter X c b h x) (bufferAfter X c b h)) (answerOf X c b h x)
 
 -- ---- a call: f gives the cells of what is told
 
-pub record Feeds (X : Read) (f : X .Told → Given) (c b : List ℕ) (h : Brought) (t lent : List ℕ) (r : ℕ) (c′ b′ t′ after : List ℕ) : Type 0 where
-  pub word : r ≡ cond (isConnection c) (fedWord f (saysIn X (lineIn c) b h (roomOf t))) (given.word (unplaced 9 nothing))
-  pub connection : c′ ≡ cond (isConnection c) (lineCells (lineAfter X (lineIn c) b h (roomOf t))) c
+pub record Feeds (X : Read) (f : X .Told → Given) (c b : List ℕ) (h : Brought) (x : Terms) (t lent : List ℕ) (r : ℕ) (c′ b′ t′ after : List ℕ) : Type 0 where
+  pub word : r ≡ cond (isConnection c) (fedWord f (saysIn X (lineIn c) b h x)) (given.word (unplaced 9 nothing))
+  pub connection : c′ ≡ cond (isConnection c) (lineCells (lineAfter X (lineIn c) b h x)) c
   pub buffer : b′ ≡ cond (isConnection c) (bufferAfter X (lineIn c) b h) b
-  pub table : t′ ≡ cond (isConnection c) (tableAfter X (lineIn c) b h (roomOf t) t) t
-  pub answer : after ≡ cond (isConnection c) (fedCells f (saysIn X (lineIn c) b h (roomOf t)) lent) lent
+  pub table : t′ ≡ cond (isConnection c) (tableAfter X (lineIn c) b h x t) t
+  pub answer : after ≡ cond (isConnection c) (fedCells f (saysIn X (lineIn c) b h x) lent) lent

@@ -1,8 +1,9 @@
 // The calls that feed a request or a reply in pieces, for a host in C or Rust, which keeps the connection as eight cells: the limit, the bytes gathered, where
-// the record that is being gathered begins, the kinds met, whether there is an answer (0 none, 1 accepted, 2 refused), and a refusal's number, the number beside
-// it and its place. Cells that hold no connection are 9.
+// the record that is being gathered begins, the kinds met, whether there is an answer (0 none, 1 accepted, 2 refused), and a refusal's number with what was not
+// offered, the number beside it and its place. Cells that hold no connection are 9.
 use nts::AeadAlgorithm;
 use nts::ErrorCode;
+use nts::NextProtocol;
 use nts::NtsError;
 use nts::Refusal;
 use nts::WarningCode;
@@ -16,14 +17,22 @@ ghost use mathlib.Core.Bool.{true, false};
 ghost use Prim.Native.Nat.{_<_, _^_};
 ghost use Rattle.pieces.specs.Pieces.{started, toldState, toldConnection};
 ghost use Rattle.pieces.specs.Reads.{requestRead, replyRead};
+ghost use Rattle.walk.specs.Judge.{roomFor};
+ghost use Rattle.places.specs.Places.{roomOf};
+ghost use Rattle.reply.specs.Reply.{offering};
 ghost use Rattle.reading.specs.Read.{requestGiven, replyGiven};
 ghost use Rattle.nts.specs.Refusal.{toldRefusal, errorIn};
 ghost use Rattle.cells.specs.Cells.{word, cells, Gives};
-ghost use Rattle.feeding.specs.Fed.{hasBeside, isStanding, isConnection, standingIn, lineCells, Feeds};
+ghost use Rattle.feeding.specs.Fed.{isMark, hasBeside, numberIn, besideIn, isStanding, isConnection, standingIn, lineCells, Feeds};
 ghost use Rattle.feeding.specs.Code.{toldKept, keptIn};
 
 // The word of a call after which the read waits: not 0, and no refusal's.
 const WAITING: u64 = 65535;
+
+// 17 and what was not offered, as a word has them in its low sixteen bits: a protocol, an algorithm.
+const NO_PROTOCOL: usize = 273;
+
+const NO_ALGORITHM: usize = 529;
 
 // The connection that cells hold.
 enum Kept {
@@ -51,7 +60,7 @@ pub extern "C" fn ntske_feed_request(
     table: &mut [u16],
     answer: &mut [usize; 10],
 ) -> u64
-    ensures { λ r. ⌜ Feeds requestRead requestGiven (now (connection .entry)) (now (buffer .entry)) (record { piece = now (piece .entry); closed = false }) (now (table .entry)) (now (answer .entry))
+    ensures { λ r. ⌜ Feeds requestRead requestGiven (now (connection .entry)) (now (buffer .entry)) (record { piece = now (piece .entry); closed = false }) (roomFor (roomOf (now (table .entry)))) (now (table .entry)) (now (answer .entry))
         r (now (connection .exit)) (now (buffer .exit)) (now (table .exit)) (now (answer .exit)) ⌝ }
 {
     fed_request(connection, false, piece, buffer, table, answer)
@@ -65,41 +74,64 @@ pub extern "C" fn ntske_close_request(
     table: &mut [u16],
     answer: &mut [usize; 10],
 ) -> u64
-    ensures { λ r. ⌜ Feeds requestRead requestGiven (now (connection .entry)) (now (buffer .entry)) (record { piece = []; closed = true }) (now (table .entry)) (now (answer .entry))
+    ensures { λ r. ⌜ Feeds requestRead requestGiven (now (connection .entry)) (now (buffer .entry)) (record { piece = []; closed = true }) (roomFor (roomOf (now (table .entry)))) (now (table .entry)) (now (answer .entry))
         r (now (connection .exit)) (now (buffer .exit)) (now (table .exit)) (now (answer .exit)) ⌝ }
 {
     let nothing = [0u8; 1];
     fed_request(connection, true, &nothing[0..0], buffer, table, answer)
 }
 
-// The same of a reply, with the answer and the table as ntske_read_reply gives them. Refusals, at a place: 9, 1 to 4, 7, 11 to 15, 16.
+// The same of a reply to one who offered these protocols and algorithms, with the answer and the table as ntske_read_reply gives them. The lists count that are
+// lent to the call which answers. Refusals, at a place: 9, 1 to 4, 7, 11 to 15, 16, 17.
 #[no_mangle]
 pub extern "C" fn ntske_feed_reply(
     connection: &mut [usize; 8],
     piece: &[u8],
+    protocols: &[u16],
+    algorithms: &[u16],
     buffer: &mut [u8],
     table: &mut [u16],
     answer: &mut [usize; 9],
 ) -> u64
-    ensures { λ r. ⌜ Feeds replyRead replyGiven (now (connection .entry)) (now (buffer .entry)) (record { piece = now (piece .entry); closed = false }) (now (table .entry)) (now (answer .entry))
+    ensures { λ r. ⌜ Feeds replyRead replyGiven (now (connection .entry)) (now (buffer .entry)) (record { piece = now (piece .entry); closed = false }) (offering (now (protocols .entry)) (now (algorithms .entry)) (roomOf (now (table .entry)))) (now (table .entry)) (now (answer .entry))
         r (now (connection .exit)) (now (buffer .exit)) (now (table .exit)) (now (answer .exit)) ⌝ }
 {
-    fed_reply(connection, false, piece, buffer, table, answer)
+    fed_reply(
+        connection,
+        false,
+        piece,
+        protocols,
+        algorithms,
+        buffer,
+        table,
+        answer,
+    )
 }
 
 // Says that the line of a reply closed.
 #[no_mangle]
 pub extern "C" fn ntske_close_reply(
     connection: &mut [usize; 8],
+    protocols: &[u16],
+    algorithms: &[u16],
     buffer: &mut [u8],
     table: &mut [u16],
     answer: &mut [usize; 9],
 ) -> u64
-    ensures { λ r. ⌜ Feeds replyRead replyGiven (now (connection .entry)) (now (buffer .entry)) (record { piece = []; closed = true }) (now (table .entry)) (now (answer .entry))
+    ensures { λ r. ⌜ Feeds replyRead replyGiven (now (connection .entry)) (now (buffer .entry)) (record { piece = []; closed = true }) (offering (now (protocols .entry)) (now (algorithms .entry)) (roomOf (now (table .entry)))) (now (table .entry)) (now (answer .entry))
         r (now (connection .exit)) (now (buffer .exit)) (now (table .exit)) (now (answer .exit)) ⌝ }
 {
     let nothing = [0u8; 1];
-    fed_reply(connection, true, &nothing[0..0], buffer, table, answer)
+    fed_reply(
+        connection,
+        true,
+        &nothing[0..0],
+        protocols,
+        algorithms,
+        buffer,
+        table,
+        answer,
+    )
 }
 
 // Either call of a request: the connection that the cells hold is handed on, and put again.
@@ -111,7 +143,7 @@ fn fed_request(
     table: &mut [u16],
     answer: &mut [usize; 10],
 ) -> u64
-    ensures { λ r. ⌜ Feeds requestRead requestGiven (now (connection .entry)) (now (buffer .entry)) (record { piece = now (piece .entry); closed = closed }) (now (table .entry)) (now (answer .entry))
+    ensures { λ r. ⌜ Feeds requestRead requestGiven (now (connection .entry)) (now (buffer .entry)) (record { piece = now (piece .entry); closed = closed }) (roomFor (roomOf (now (table .entry)))) (now (table .entry)) (now (answer .entry))
         r (now (connection .exit)) (now (buffer .exit)) (now (table .exit)) (now (answer .exit)) ⌝ }
 {
     let kept = connection_in(connection);
@@ -136,18 +168,20 @@ fn fed_reply(
     connection: &mut [usize; 8],
     closed: bool,
     piece: &[u8],
+    protocols: &[u16],
+    algorithms: &[u16],
     buffer: &mut [u8],
     table: &mut [u16],
     answer: &mut [usize; 9],
 ) -> u64
-    ensures { λ r. ⌜ Feeds replyRead replyGiven (now (connection .entry)) (now (buffer .entry)) (record { piece = now (piece .entry); closed = closed }) (now (table .entry)) (now (answer .entry))
+    ensures { λ r. ⌜ Feeds replyRead replyGiven (now (connection .entry)) (now (buffer .entry)) (record { piece = now (piece .entry); closed = closed }) (offering (now (protocols .entry)) (now (algorithms .entry)) (roomOf (now (table .entry)))) (now (table .entry)) (now (answer .entry))
         r (now (connection .exit)) (now (buffer .exit)) (now (table .exit)) (now (answer .exit)) ⌝ }
 {
     let kept = connection_in(connection);
     let Kept::Connection(x) = kept else {
         return cells::refused(NtsError::InvalidValue);
     };
-    let replied = pieces::feed_reply(x, closed, piece, buffer, table);
+    let replied = pieces::feed_reply(x, closed, piece, protocols, algorithms, buffer, table);
     *connection = connection_cells(replied.connection);
     let said = replied.answer;
     match said {
@@ -183,7 +217,7 @@ fn connection_cells(x: Connection) -> [usize; 8]
         State::Accepted => [l, x.gathered, x.begins, m, 1, 0, 0, 0],
         State::Refused(refusal) => {
             let error = refusal.error;
-            let n = error.number() as usize;
+            let n = cells::mark(error) as usize;
             let c = cells::beside(error) as usize;
             [l, x.gathered, x.begins, m, 2, n, c, refusal.place]
         }
@@ -213,7 +247,7 @@ fn is_connection(c: &[usize; 8]) -> bool
     (c[0] <= 65535) & (c[3] <= 65535) & is_state(c[4], c[5], c[6], c[7])
 }
 
-// Whether the last four are an answer's: a refusal has a number from 1 to 16 and a place, and what is none has neither.
+// Whether the last four are an answer's: a refusal has its number, with what was not offered, and a place, and what is none has neither.
 fn is_state(state: usize, number: usize, beside: usize, place: usize) -> bool
     ensures { λ r. ⌜ r ≡ isStanding state number beside place ⌝ }
 {
@@ -221,14 +255,20 @@ fn is_state(state: usize, number: usize, beside: usize, place: usize) -> bool
         return (number == 0) & (beside == 0) & (place == 0);
     }
     (state == 2)
-        & (1 <= number)
-        & (number <= 16)
+        & is_mark(number)
         & (beside <= 65535)
-        & ((beside == 0) | has_beside(number))
+        & ((beside == 0) | has_beside(number) | (NO_PROTOCOL <= number))
         & (place <= 4294967295)
 }
 
-// Whether a refusal has a number beside its own.
+// Whether it is a refusal's number: 1 to 16, or 17 with what was not offered.
+fn is_mark(number: usize) -> bool
+    ensures { λ r. ⌜ r ≡ isMark number ⌝ }
+{
+    ((1 <= number) & (number <= 16)) | (number == NO_PROTOCOL) | (number == NO_ALGORITHM)
+}
+
+// Whether a refusal has a number beside its own, which that tells of what sort it is.
 fn has_beside(number: usize) -> bool
     ensures { λ r. ⌜ r ≡ hasBeside number ⌝ }
 {
@@ -250,9 +290,10 @@ fn state_in(state: usize, number: u16, beside: u16, place: usize) -> State
     }
 }
 
-// The refusal that has a number, from 1 to 16.
+// The refusal that has such a number.
 fn error_in(number: u16, beside: u16) -> NtsError
-    ensures { λ r. ⌜ r ≡ errorIn number beside ⌝ }
+    requires { ⌜ isMark number ≡ true ⌝ }
+    ensures { λ r. ⌜ r ≡ errorIn (numberIn number) (besideIn number beside) ⌝ }
 {
     match number {
         1 => NtsError::UnexpectedEof,
@@ -270,6 +311,8 @@ fn error_in(number: u16, beside: u16) -> NtsError
         13 => NtsError::NoOverlappingProtocol,
         14 => NtsError::NoOverlappingAlgorithm,
         15 => NtsError::NoCookie,
-        _ => NtsError::BufferFull,
+        16 => NtsError::BufferFull,
+        273 => NtsError::ProtocolNotOffered(NextProtocol(beside)),
+        _ => NtsError::AeadNotOffered(AeadAlgorithm(beside)),
     }
 }

@@ -3,20 +3,20 @@
 -- Assumes nothing.
 use mathlib.Core.Path.{_≡_}
 use mathlib.Core.Bool.{Bool}
-use mathlib.Core.List.{List, [], _∷_}
+use mathlib.Core.List.{List, [], _∷_, _++_}
 use Prim.Native.Nat.{ℕ, zero, suc, _+_, _*_, _/_, _%_, _<_, _≤_, _^_}
 use native.Mathlib.Nat.{pow-succ'}
 use native.Mathlib.Omega.{arith}
 use borrow.Author.Tests.{ltb-false, lt-ltb, eqb-true}
 use lib.Dec.{ltb, eqb}
 use lib.ListN.{length, take, length-append, length-take}
-use Rattle.nts.specs.Refusal.{Beside, nothing, code}
+use Rattle.nts.specs.Refusal.{Beside, nothing, code, protocol, algorithm}
 use Rattle.record.specs.Record.{kind, kindOf, critical, size}
 use Rattle.walk.specs.Walk.{Reader, Sighting, Step, stops, goes, step, faultIn}
 use Rattle.walk.specs.Shown.{Mark, markAt, shown}
 use Rattle.walk.proofs.Faultless.{faultless-whole}
 use Rattle.request.specs.Request.{reader, request, Told, keyExchangeIs, fixedKeyIs, supportIs, refusedWith, toldBy}
-use Rattle.listing.specs.Listing.{digitsBy, digits, recordLine, linesOf, besideText, answerText, listing}
+use Rattle.listing.specs.Listing.{digitsBy, digits, recordLine, linesOf, codeText, besideText, answerText, listing}
 use Rattle.listing.proofs.Digits.{on, digits-few}
 
 -- ---- numbers
@@ -80,9 +80,14 @@ lines-long R st at zero (b ∷ s) h l =
 
 -- ---- the last line
 
+code-long : (n : ℕ) → length (codeText ++ digits n) ≤ 26
+code-long n = simp length-append (omega (arith, digits-few n))
+
 beside-long : (b : Beside) → length (besideText b) ≤ 26
 beside-long nothing = omega arith
-beside-long (code n) = simp length-append (omega (arith, digits-few n))
+beside-long (code n) = code-long n
+beside-long (protocol n) = code-long n
+beside-long (algorithm n) = code-long n
 
 last-long : (t : Told) → length (answerText t) ≤ 111
 last-long (keyExchangeIs p a d) = simp length-append (omega (arith, digits-few (p .len / 2), digits-few (a .len / 2), digits-few d))

@@ -4,7 +4,7 @@ use mathlib.Core.List.{List, [], _∷_, _++_}
 use mathlib.Core.Bool.{Bool, cond}
 use lib.ListN.{take}
 use lib.Dec.{ltb}
-use Rattle.nts.specs.Refusal.{Beside, nothing, code}
+use Rattle.nts.specs.Refusal.{Beside, nothing, code, protocol, algorithm}
 use Rattle.walk.specs.Shown.{Mark, shown}
 use Rattle.request.specs.Request.{reader, request, Told, keyExchangeIs, fixedKeyIs, supportIs, refusedWith, toldBy}
 
@@ -75,6 +75,8 @@ codeText = 32 ∷ 99 ∷ 111 ∷ 100 ∷ 101 ∷ 32 ∷ []
 abbrev pub besideText : Beside → List ℕ
 besideText nothing = []
 besideText (code n) = codeText ++ digits n
+besideText (protocol n) = codeText ++ digits n
+besideText (algorithm n) = codeText ++ digits n
 
 -- a list's entries are two bytes each
 abbrev pub answerText : Told → List ℕ

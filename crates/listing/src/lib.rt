@@ -245,6 +245,8 @@ fn put_code(code: Code, out: &mut [u8]) -> usize
     match code {
         Code::None => 0,
         Code::Number(n) => put_field(b" code ", n as usize, out),
+        Code::Protocol(protocol) => put_field(b" code ", protocol.0 as usize, out),
+        Code::Algorithm(algorithm) => put_field(b" code ", algorithm.0 as usize, out),
     }
 }
 

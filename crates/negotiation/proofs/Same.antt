@@ -12,6 +12,7 @@ use Rattle.negotiation.specs.declared.ProtocolChoice.{ProtocolChoice}
 use Rattle.negotiation.specs.declared.ProtocolChoice.the-variants as protocol
 use Rattle.negotiation.proofs.choose.Reads as choose
 use Rattle.negotiation.proofs.choose_protocol.Reads as choose-protocol
+use Rattle.negotiation.proofs.has.Reads as has
 
 -- what is told of an answer tells any two answers apart
 pub choice-apart : (x y : Choice) → toldChoice x ≡ toldChoice y → x ≡ y
@@ -40,3 +41,6 @@ protocol-apart (protocol.Refused c) (protocol.Refused d) e =
 
 pub choose-protocol-same : (κs : _) (a : _) (r r′ : _) (e e′ : _) → choose-protocol.Learnt κs a r e → choose-protocol.Learnt κs a r′ e′ → r ≡ r′
 choose-protocol-same κs a r r′ e e′ p q = protocol-apart r r′ (p ∙ sym q)
+
+pub has-same : (κs : _) (a : _) (r r′ : _) (e e′ : _) → has.Learnt κs a r e → has.Learnt κs a r′ e′ → r ≡ r′
+has-same κs a r r′ e e′ p q = p ∙ sym q

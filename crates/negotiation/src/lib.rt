@@ -100,12 +100,13 @@ fn first_common(list: &[u8], own: &[u16]) -> First
     }
 }
 
-fn has(own: &[u16], n: u16) -> bool
-    ensures { λ r. ⌜ r ≡ holds (now (own .entry)) n ⌝ }
+// Whether a list of cells holds a number.
+pub fn has(list: &[u16], n: u16) -> bool
+    ensures { λ r. ⌜ r ≡ holds (now (list .entry)) n ⌝ }
 {
     let mut i: usize = 0;
-    while i < own.len() {
-        if own[i] == n {
+    while i < list.len() {
+        if list[i] == n {
             return true;
         }
         i = i + 1;

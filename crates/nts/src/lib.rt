@@ -103,12 +103,18 @@ pub enum NtsError {
     NoCookie,
     // A byte arrives that a read needs, and the buffer has no room.
     BufferFull,
+    // The reply names a protocol that was not offered.
+    ProtocolNotOffered(NextProtocol),
+    // It names an algorithm that was not offered.
+    AeadNotOffered(AeadAlgorithm),
 }
 
-// What is returned beside a refusal's number.
+// What is returned beside a refusal's number: with 17 a protocol or an algorithm, each as such.
 pub enum Code {
     None,
     Number(u16),
+    Protocol(NextProtocol),
+    Algorithm(AeadAlgorithm),
 }
 
 // A reading refusal: why, and the place of the first byte of the record concerned.
@@ -139,10 +145,12 @@ impl NtsError {
             NtsError::NoOverlappingAlgorithm => 14,
             NtsError::NoCookie => 15,
             NtsError::BufferFull => 16,
+            NtsError::ProtocolNotOffered(_) => 17,
+            NtsError::AeadNotOffered(_) => 17,
         }
     }
 
-    // The algorithm number that comes with 5, and the code with 11 and 12.
+    // The algorithm number that comes with 5, the code with 11 and 12, and what was not offered with 17.
     pub fn code(self) -> Code
         ensures { λ r. ⌜ toldCode r ≡ besideOf self ⌝ }
     {
@@ -163,6 +171,8 @@ impl NtsError {
             NtsError::NoOverlappingAlgorithm => Code::None,
             NtsError::NoCookie => Code::None,
             NtsError::BufferFull => Code::None,
+            NtsError::ProtocolNotOffered(protocol) => Code::Protocol(protocol),
+            NtsError::AeadNotOffered(algorithm) => Code::Algorithm(algorithm),
         }
     }
 }

@@ -14,7 +14,7 @@ use Rattle.nts.specs.declared.NtsError.the-variants.{InvalidValue, BufferFull}
 use Rattle.nts.specs.declared.Refusal.{Refusal}
 use Rattle.walk.specs.Walk.{Reader}
 use Rattle.walk.specs.Judge as judge
-use Rattle.walk.specs.Judge.{readBy}
+use Rattle.walk.specs.Judge.{Terms, roomFor, readBy}
 use Rattle.walk.specs.Rules.{readerOf}
 use Rattle.pieces.specs.Pieces.{Standing, accepted, refused, Line, broken, Brought, joined, fitting, comes, Read, Fed, none, answers, refusedAt, answerAfter, firstAnswer, again, byStanding, answerOf, isPending, standingBy, lineAfter, bufferAfter, filledBy, tableAfter, Says, nothingYet, says, saysOf, held, Hands, toldState, toldConnection}
 use Rattle.pieces.specs.Pieces as pieces
@@ -28,16 +28,16 @@ use Rattle.pieces.proofs.Inside.{came-inside, fitting-inside, front-ove
 
 -- ---- nothing changes: a connection that counts too much, or one with an answer
 
-module _ (X : Read) (c : Line) (b : List ℕ) (h : Brought) (room : ℕ) (t : List ℕ) where
-  pub hands-broken : broken c b ≡ true → (v : Refusal) → v ≡ record { error = InvalidValue; place = 0 } → Hands X c b h room t (says (X .tells (held c b) (judge.refused (toldRefusal v)))) c b t
+module _ (X : Read) (c : Line) (b : List ℕ) (h : Brought) (x : Terms) (t : List ℕ) where
+  pub hands-broken : broken c b ≡ true → (v : Refusal) → v ≡ record { error = InvalidValue; place = 0 } → Hands X c b h x t (says (X .tells (held c b) (judge.refused (toldRefusal v)))) c b t
   unfolding answerOf isPending lineAfter bufferAfter tableAfter
   hands-broken e v q = record { answer = rw (e, q) refl; line = rw e refl; buffer = rw e refl; table = rw e refl }
 
-  pub hands-refused : broken c b ≡ false → (v : Refused) → c .standing ≡ refused v → Hands X c b h room t (says (X .tells (held c b) (judge.refused v))) c b t
+  pub hands-refused : broken c b ≡ false → (v : Refused) → c .standing ≡ refused v → Hands X c b h x t (says (X .tells (held c b) (judge.refused v))) c b t
   unfolding answerOf isPending lineAfter bufferAfter tableAfter
   hands-refused e v q = record { answer = rw (e, q) refl; line = rw (e, q) refl; buffer = rw (e, q) refl; table = rw (e, q) refl }
 
-  pub hands-accepted : broken c b ≡ false → c .standing ≡ accepted → (r : Says (X .Told)) → r ≡ saysOf X (held c b) (again X c b) → Hands X c b h room t r c b t
+  pub hands-accepted : broken c b ≡ false → c .standing ≡ accepted → (r : Says (X .Told)) → r ≡ saysOf X (held c b) (again X c b) → Hands X c b h x t r c b t
   unfolding again answerOf isPending lineAfter bufferAfter tableAfter
   hands-accepted e q r a = record { answer = rw (e, q) a; line = rw (e, q) refl; buffer = rw (e, q) refl; table = rw (e, q) refl }
 
@@ -45,13 +45,13 @@ module _ (X : Read) (c : Line) (b : List ℕ) (h : Brought) (room : ℕ) (t : Li
 front-part : (n : ℕ) (s : List ℕ) → take (n - 0) (drop 0 s) ≡ take n s
 front-part n s = ap (λ (k : ℕ). take k s) (sub-zero n)
 
--- an answer a over the bytes gathered, with room for as many records
+-- an answer a over the bytes gathered, with room for as many records, where every number was offered
 pub again-says : (X : Read) (c : Connection) (b : List ℕ) (a : X .Told)
-    → a ≡ X .tells (take (c .gathered - 0) (drop 0 b)) (readBy (X .reader) (X .judging) (take (c .gathered - 0) (drop 0 b)) (record { limit = c .limit; room = c .gathered }))
+    → a ≡ X .tells (take (c .gathered - 0) (drop 0 b)) (readBy (X .reader) (X .judging) (take (c .gathered - 0) (drop 0 b)) (record { limit = c .limit; terms = roomFor (c .gathered) }))
     → says a ≡ saysOf X (held (toldConnection c) b) (again X (toldConnection c) b)
 unfolding again
 again-says X c b a q =
-    ap says (q ∙ ap (λ (s : List ℕ). X .tells s (readBy (X .reader) (X .judging) s (record { limit = c .limit; room = c .gathered }))) (front-part (c .gathered) b))
+    ap says (q ∙ ap (λ (s : List ℕ). X .tells s (readBy (X .reader) (X .judging) s (record { limit = c .limit; terms = roomFor (c .gathered) }))) (front-part (c .gathered) b))
 
 -- ---- a piece handed to a read without an answer
 
@@ -95,12 +95,12 @@ module _ (X : Read) (T : Telling X) (rules : List ℕ) (same : readerOf rules �
   long : length m ≡ x .gathered
   long = length-take-le (x .gathered) b′ gathered-inside
 
-  module _ (room : ℕ) (t : List ℕ) where
+  module _ (under : Terms) (t : List ℕ) where
     -- the answer by what was gathered, and that it is the definition's
     after : Fed (X .judging .Q)
-    after = answerAfter X (c .limit) (toldHow (x .how)) m room
+    after = answerAfter X (c .limit) (toldHow (x .how)) m under
 
-    first : firstAnswer X l b h room ≡ after
+    first : firstAnswer X l b h under ≡ after
     unfolding firstAnswer after
     first = rw (← came, stored) refl
 
@@ -109,16 +109,16 @@ module _ (X : Read) (T : Telling X) (rules : List ℕ) (same : readerOf rules �
     unfolding isPending
     waiting-still = rw (u .0, u .1) refl
 
-    answered : answerOf X l b h room ≡ after
+    answered : answerOf X l b h under ≡ after
     unfolding answerOf
     answered =
-        ap (λ (w : Bool). cond w (refusedAt 9 0) (byStanding (toldState (c .state)) (firstAnswer X l b h room) (again X l b) (λ r. answers (judge.refused r)))) (u .0)
-        ∙ ap (λ (w : State). byStanding (toldState w) (firstAnswer X l b h room) (again X l b) (λ r. answers (judge.refused r))) (u .1)
+        ap (λ (w : Bool). cond w (refusedAt 9 0) (byStanding (toldState (c .state)) (firstAnswer X l b h under) (again X l b) (λ r. answers (judge.refused r)))) (u .0)
+        ∙ ap (λ (w : State). byStanding (toldState w) (firstAnswer X l b h under) (again X l b) (λ r. answers (judge.refused r))) (u .1)
         ∙ first
 
     -- whatever the answer is
     hands-on : (f : Fed (X .judging .Q)) → after ≡ f → (s : State) → toldState s ≡ standingBy f → (v : Connection) → v ≡ carriedBy c x s
-        → (r : Says (X .Told)) → r ≡ saysOf X m f → (t′ : List ℕ) → t′ ≡ filledBy X f t → Hands X l b h room t r (toldConnection v) b′ t′
+        → (r : Says (X .Told)) → r ≡ saysOf X m f → (t′ : List ℕ) → t′ ≡ filledBy X f t → Hands X l b h under t r (toldConnection v) b′ t′
     unfolding lineAfter bufferAfter tableAfter
     hands-on f a s e v q r y t′ z =
         let w = first ∙ a in
@@ -135,26 +135,26 @@ module _ (X : Read) (T : Telling X) (rules : List ℕ) (same : readerOf rules �
           table = rw waiting-still (z ∙ ap (λ (i : Fed (X .judging .Q)). filledBy X i t) (sym w));
         })
 
-    pub hands-waiting : x .how ≡ how.Waiting → (v : Connection) → v ≡ carriedBy c x state.Pending → Hands X l b h room t nothingYet (toldConnection v) b′ t
+    pub hands-waiting : x .how ≡ how.Waiting → (v : Connection) → v ≡ carriedBy c x state.Pending → Hands X l b h under t nothingYet (toldConnection v) b′ t
     unfolding after
     hands-waiting e v q = hands-on none (rw e refl) state.Pending refl v q nothingYet refl t refl
 
     -- y is kept, and z answered
     pub hands-full : x .how ≡ how.NoRoom → (y z : Refusal) → y ≡ record { error = BufferFull; place = x .gathered } → z ≡ record { error = BufferFull; place = x .gathered }
-        → (v : Connection) → v ≡ carriedBy c x (state.Refused y) → Hands X l b h room t (says (X .tells m (judge.refused (toldRefusal z)))) (toldConnection v) b′ t
+        → (v : Connection) → v ≡ carriedBy c x (state.Refused y) → Hands X l b h under t (says (X .tells m (judge.refused (toldRefusal z)))) (toldConnection v) b′ t
     unfolding after
     hands-full e y z yq zq v q =
         hands-on (refusedAt 16 (x .gathered)) (rw (e, long) refl) (state.Refused y) (rw yq refl) v q _ (rw zq refl) t (sym (T .kept _ t))
 
     -- what the whole-message reader answers over s
     read : List ℕ → judge.Answer (X .judging .Q)
-    read s = readBy (X .reader) (X .judging) s (record { limit = c .limit; room = room })
+    read s = readBy (X .reader) (X .judging) s (record { limit = c .limit; terms = under })
 
     -- its answer a over the bytes gathered, and the table that it leaves
     pub hands-decided : x .how ≡ how.Decided → (a : X .Told) (t′ : List ℕ)
-        → a ≡ X .tells (take (x .gathered - 0) (drop 0 b′)) (readBy (X .reader) (X .judging) (take (x .gathered - 0) (drop 0 b′)) (record { limit = c .limit; room = room }))
-        → t′ ≡ X .fills (readBy (X .reader) (X .judging) (take (x .gathered - 0) (drop 0 b′)) (record { limit = c .limit; room = room })) t
-        → (w : State) → toldState w ≡ T .stands a → (v : Connection) → v ≡ carriedBy c x w → Hands X l b h room t (says a) (toldConnection v) b′ t′
+        → a ≡ X .tells (take (x .gathered - 0) (drop 0 b′)) (readBy (X .reader) (X .judging) (take (x .gathered - 0) (drop 0 b′)) (record { limit = c .limit; terms = under }))
+        → t′ ≡ X .fills (readBy (X .reader) (X .judging) (take (x .gathered - 0) (drop 0 b′)) (record { limit = c .limit; terms = under })) t
+        → (w : State) → toldState w ≡ T .stands a → (v : Connection) → v ≡ carriedBy c x w → Hands X l b h under t (says a) (toldConnection v) b′ t′
     unfolding after read
     hands-decided e a t′ y z w k v q =
         let d : take (x .gathered - 0) (drop 0 b′) ≡ m = front-part (x .gathered) b′ in
@@ -163,9 +163,9 @@ module _ (X : Read) (T : Telling X) (rules : List ℕ) (same : readerOf rules �
 
 -- ---- what a call gives is one
 
-pub hands-same : {X : Read} {c : Line} {b : List ℕ} {h : Brought} {room : ℕ} {t : List ℕ} {r r′ : Says (X .Told)} {c′ c″ : Line} {b′ b″ t′ t″ : List ℕ}
-    → Hands X c b h room t r c′ b′ t′ → Hands X c b h room t r′ c″ b″ t″ → (r ≡ r′) × (c′ ≡ c″) × (b′ ≡ b″) × (t′ ≡ t″)
-hands-same {X} {c} {b} {h} {room} p q =
+pub hands-same : {X : Read} {c : Line} {b : List ℕ} {h : Brought} {x : Terms} {t : List ℕ} {r r′ : Says (X .Told)} {c′ c″ : Line} {b′ b″ t′ t″ : List ℕ}
+    → Hands X c b h x t r c′ b′ t′ → Hands X c b h x t r′ c″ b″ t″ → (r ≡ r′) × (c′ ≡ c″) × (b′ ≡ b″) × (t′ ≡ t″)
+hands-same {X} {c} {b} {h} {x} p q =
     let l = p .line ∙ sym (q .line) in
     let w = p .buffer ∙ sym (q .buffer) in
-    (p .answer ∙ (λ i. saysOf X (held (l i) (w i)) (answerOf X c b h room)) ∙ sym (q .answer), l, w, p .table ∙ sym (q .table))
+    (p .answer ∙ (λ i. saysOf X (held (l i) (w i)) (answerOf X c b h x)) ∙ sym (q .answer), l, w, p .table ∙ sym (q .table))

@@ -15,7 +15,7 @@ use denote.Triple.Clauses.{AtExit}
 use Rattle.pieces.specs.Reads.{HandsOver}
 use Rattle.pieces.proofs.hand_over as thin
 
-abbrev pub Learnt : (κs : Lfts 4) (a : Args thin.signature κs) (r : Res thin.signature κs) (e : AtExit thin.ended κs) → Type 0
+abbrev pub Learnt : (κs : Lfts 6) (a : Args thin.signature κs) (r : Res thin.signature κs) (e : AtExit thin.ended κs) → Type 0
 Learnt κs a r e =
     HandsOver
     (now (a .0))
@@ -24,10 +24,12 @@ Learnt κs a r e =
     (a .1 .1 .0)
     (now (a .1 .1 .1 .1 .0))
     (now (a .1 .1 .1 .1 .1 .0))
+    (now (a .1 .1 .1 .1 .1 .1 .0))
+    (now (a .1 .1 .1 .1 .1 .1 .1 .0))
     (record { connection = now (e .0); answer = r })
-    (now (e .1 .1 .1 .1 .0))
-    (now (e .1 .1 .1 .1 .1 .0))
+    (now (e .1 .1 .1 .1 .1 .1 .0))
+    (now (e .1 .1 .1 .1 .1 .1 .1 .0))
 
-pub learnt-is : {M : Type 1} (𝓤 : URA M) (H : Heap 𝓤) (A : Atoms 𝓤) (mem : Memory → SProp 𝓤) (run : Routine → Fun 𝓤) (κs : Lfts 4) (a : Args thin.signature κs) (r : Res thin.signature κs) (e : AtExit thin.ended κs)
+pub learnt-is : {M : Type 1} (𝓤 : URA M) (H : Heap 𝓤) (A : Atoms 𝓤) (mem : Memory → SProp 𝓤) (run : Routine → Fun 𝓤) (κs : Lfts 6) (a : Args thin.signature κs) (r : Res thin.signature κs) (e : AtExit thin.ended κs)
     → thin.clauses 𝓤 H A mem run κs a .ensures tt r e ≡ fact 𝓤 (Learnt κs a r e)
 learnt-is 𝓤 H A mem run κs a r e = refl

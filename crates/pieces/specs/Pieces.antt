@@ -1,4 +1,4 @@
--- A read that is fed as the line delivers: 02, order 1, "Feed it as the line delivers". Sentences in quotes are the order's.
+-- A read that is fed as the line delivers: 02, order 1, "Feed it as the line delivers", and order 3 for what was offered. Sentences in quotes are order 1's.
 use Prim.Native.Nat.{ℕ, zero, suc, _+_}
 use mathlib.Core.Path.{_≡_}
 use mathlib.Core.List.{List, [], _∷_, _++_}
@@ -10,7 +10,7 @@ use Rattle.nts.specs.Refusal.{nothing, Refused, toldRefusal}
 use Rattle.record.specs.Record.{size}
 use Rattle.walk.specs.Walk.{Reader}
 use Rattle.walk.specs.Judge as judge
-use Rattle.walk.specs.Judge.{Judge, readBy}
+use Rattle.walk.specs.Judge.{Terms, roomFor, Judge, readBy}
 use Rattle.walk.specs.Met.{Passing, halts, on, passing}
 use Rattle.pieces.specs.declared.Connection.{Connection}
 use Rattle.pieces.specs.declared.State.{State}
@@ -135,19 +135,19 @@ abbrev pub refusedAt : {Q : Type 0 → Type 0} → ℕ → ℕ → Fed Q
 refusedAt n place = answers (judge.refused (record { number = n; beside = nothing; place = place }))
 
 -- "the answer equals the whole-message reader's on the pieces joined"; 16 at the byte that has no room
-abbrev pub answerAfter : (X : Read) → ℕ → How → List ℕ → ℕ → Fed (X .judging .Q)
-answerAfter X n waiting s room = none
-answerAfter X n noRoom s room = refusedAt 16 (length s)
-answerAfter X n decided s room = answers (readBy (X .reader) (X .judging) s (record { limit = n; room = room }))
+abbrev pub answerAfter : (X : Read) → ℕ → How → List ℕ → Terms → Fed (X .judging .Q)
+answerAfter X n waiting s x = none
+answerAfter X n noRoom s x = refusedAt 16 (length s)
+answerAfter X n decided s x = answers (readBy (X .reader) (X .judging) s (record { limit = n; terms = x }))
 
--- without an answer before, and with room for so many records in the lent table
-unfoldable pub firstAnswer : (X : Read) → Line → List ℕ → Brought → ℕ → Fed (X .judging .Q)
-firstAnswer X c b h room = answerAfter X (c .limit) (comes (X .reader) c b h .how) (take (comes (X .reader) c b h .gathered) (joined c b h)) room
+-- without an answer before, under what is lent to the call that gives it: the table's room, and what was offered
+unfoldable pub firstAnswer : (X : Read) → Line → List ℕ → Brought → Terms → Fed (X .judging .Q)
+firstAnswer X c b h x = answerAfter X (c .limit) (comes (X .reader) c b h .how) (take (comes (X .reader) c b h .gathered) (joined c b h)) x
 
 -- "once an answer exists, later calls .. give it again": an accepted one from the bytes gathered, whatever room the table has that is lent now, since no
--- message has more records than bytes
+-- message has more records than bytes, and whatever lists are lent now: those of the call that accepted it let in what it names. Where an accepted state was put by hand, no list is asked
 unfoldable pub again : (X : Read) → Line → List ℕ → Fed (X .judging .Q)
-again X c b = answers (readBy (X .reader) (X .judging) (take (c .gathered) b) (record { limit = c .limit; room = c .gathered }))
+again X c b = answers (readBy (X .reader) (X .judging) (take (c .gathered) b) (record { limit = c .limit; terms = roomFor (c .gathered) }))
 
 abbrev pub byStanding : {A : Type 0} → Standing → A → A → (Refused → A) → A
 byStanding pending x y f = x
@@ -155,8 +155,8 @@ byStanding accepted x y f = y
 byStanding (refused r) x y f = f r
 
 -- 9 is "first"
-unfoldable pub answerOf : (X : Read) → Line → List ℕ → Brought → ℕ → Fed (X .judging .Q)
-answerOf X c b h room = cond (broken c b) (refusedAt 9 0) (byStanding (c .standing) (firstAnswer X c b h room) (again X c b) (λ r. answers (judge.refused r)))
+unfoldable pub answerOf : (X : Read) → Line → List ℕ → Brought → Terms → Fed (X .judging .Q)
+answerOf X c b h x = cond (broken c b) (refusedAt 9 0) (byStanding (c .standing) (firstAnswer X c b h x) (again X c b) (λ r. answers (judge.refused r)))
 
 -- ---- what a call leaves: everything as it was, if it is 9 or there was an answer
 
@@ -168,15 +168,15 @@ standingBy none = pending
 standingBy (answers (judge.refused r)) = refused r
 standingBy (answers (judge.accepted q)) = accepted
 
-unfoldable pub lineAfter : (X : Read) → Line → List ℕ → Brought → ℕ → Line
-lineAfter X c b h room =
+unfoldable pub lineAfter : (X : Read) → Line → List ℕ → Brought → Terms → Line
+lineAfter X c b h x =
     cond (isPending c b)
     (record {
       limit = c .limit;
       gathered = comes (X .reader) c b h .gathered;
       begins = comes (X .reader) c b h .begins;
       met = comes (X .reader) c b h .met;
-      standing = standingBy (firstAnswer X c b h room);
+      standing = standingBy (firstAnswer X c b h x);
     })
     c
 
@@ -189,8 +189,8 @@ filledBy X none t = t
 filledBy X (answers a) t = X .fills a t
 
 -- "the table changes only when a message is accepted"
-unfoldable pub tableAfter : (X : Read) → Line → List ℕ → Brought → ℕ → List ℕ → List ℕ
-tableAfter X c b h room t = cond (isPending c b) (filledBy X (firstAnswer X c b h room) t) t
+unfoldable pub tableAfter : (X : Read) → Line → List ℕ → Brought → Terms → List ℕ → List ℕ
+tableAfter X c b h x t = cond (isPending c b) (filledBy X (firstAnswer X c b h x) t) t
 
 -- ---- a call
 
@@ -207,11 +207,11 @@ saysOf X m (answers a) = says (X .tells m a)
 abbrev pub held : Line → List ℕ → List ℕ
 held c b = take (c .gathered) b
 
-pub record Hands (X : Read) (c : Line) (b : List ℕ) (h : Brought) (room : ℕ) (t : List ℕ) (r : Says (X .Told)) (c′ : Line) (b′ t′ : List ℕ) : Type 0 where
-  pub answer : r ≡ saysOf X (held c′ b′) (answerOf X c b h room)
-  pub line : c′ ≡ lineAfter X c b h room
+pub record Hands (X : Read) (c : Line) (b : List ℕ) (h : Brought) (x : Terms) (t : List ℕ) (r : Says (X .Told)) (c′ : Line) (b′ t′ : List ℕ) : Type 0 where
+  pub answer : r ≡ saysOf X (held c′ b′) (answerOf X c b h x)
+  pub line : c′ ≡ lineAfter X c b h x
   pub buffer : b′ ≡ bufferAfter X c b h
-  pub table : t′ ≡ tableAfter X c b h room t
+  pub table : t′ ≡ tableAfter X c b h x t
 
 -- ---- what is kept of an answer in the code
 

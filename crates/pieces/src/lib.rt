@@ -158,15 +158,18 @@ pub fn feed_request(
     }
 }
 
-// The same of a reply, and of its cookies.
+// The same of a reply, and of its cookies: what it names must be among what was offered, by the lists that are lent to the call which answers. An accepted
+// one is given again whatever lists are lent then.
 pub fn feed_reply(
     connection: Connection,
     closed: bool,
     piece: &[u8],
+    protocols: &[u16],
+    algorithms: &[u16],
     buffer: &mut [u8],
     table: &mut [u16],
 ) -> FedReply
-    ensures { λ r. ⌜ FeedsReply connection (now (piece .entry)) closed (now (buffer .entry)) (now (table .entry)) r (now (buffer .exit)) (now (table .exit)) ⌝ }
+    ensures { λ r. ⌜ FeedsReply connection (now (piece .entry)) closed (now (protocols .entry)) (now (algorithms .entry)) (now (buffer .entry)) (now (table .entry)) r (now (buffer .exit)) (now (table .exit)) ⌝ }
 {
     if is_broken(connection, buffer.len()) {
         return FedReply {
@@ -176,7 +179,15 @@ pub fn feed_reply(
     }
     let state = connection.state;
     match state {
-        State::Pending => pending_reply(connection, closed, piece, buffer, table),
+        State::Pending => pending_reply(
+            connection,
+            closed,
+            piece,
+            protocols,
+            algorithms,
+            buffer,
+            table,
+        ),
         State::Accepted => FedReply {
             connection,
             answer: reply_again(connection, buffer),
@@ -188,16 +199,18 @@ pub fn feed_reply(
     }
 }
 
-// Either of the two, by which message is expected.
+// Either of the two, by which message is expected. A request is not asked what was offered.
 pub fn hand(
     connection: Connection,
     expected: Expected,
     closed: bool,
     piece: &[u8],
+    protocols: &[u16],
+    algorithms: &[u16],
     buffer: &mut [u8],
     table: &mut [u16],
 ) -> Handed
-    ensures { λ r. ⌜ HandsOver connection expected (now (piece .entry)) closed (now (buffer .entry)) (now (table .entry)) r (now (buffer .exit)) (now (table .exit)) ⌝ }
+    ensures { λ r. ⌜ HandsOver connection expected (now (piece .entry)) closed (now (protocols .entry)) (now (algorithms .entry)) (now (buffer .entry)) (now (table .entry)) r (now (buffer .exit)) (now (table .exit)) ⌝ }
 {
     match expected {
         Expected::Request => {
@@ -210,7 +223,15 @@ pub fn hand(
             }
         }
         Expected::Reply => {
-            let fed = feed_reply(connection, closed, piece, buffer, table);
+            let fed = feed_reply(
+                connection,
+                closed,
+                piece,
+                protocols,
+                algorithms,
+                buffer,
+                table,
+            );
             let after = fed.connection;
             let answer = fed.answer;
             Handed {
@@ -305,11 +326,13 @@ fn pending_reply(
     connection: Connection,
     closed: bool,
     piece: &[u8],
+    protocols: &[u16],
+    algorithms: &[u16],
     buffer: &mut [u8],
     table: &mut [u16],
 ) -> FedReply
     requires { ⌜ IsPending connection (now buffer) ⌝ }
-    ensures { λ r. ⌜ FeedsReply connection (now (piece .entry)) closed (now (buffer .entry)) (now (table .entry)) r (now (buffer .exit)) (now (table .exit)) ⌝ }
+    ensures { λ r. ⌜ FeedsReply connection (now (piece .entry)) closed (now (protocols .entry)) (now (algorithms .entry)) (now (buffer .entry)) (now (table .entry)) r (now (buffer .exit)) (now (table .exit)) ⌝ }
 {
     let rules = reply::RULES;
     let came = gather(&rules, connection, closed, piece, buffer);
@@ -325,7 +348,14 @@ fn pending_reply(
         },
         How::Decided => {
             let n = came.gathered;
-            let answer = KeyExchangeResponse::parse(&buffer[0..n], connection.limit, table);
+            let limit = connection.limit;
+            let answer = KeyExchangeResponse::parse(
+                &buffer[0..n],
+                limit,
+                protocols,
+                algorithms,
+                table,
+            );
             match answer {
                 reply::Answer::Accepted(x) => FedReply {
                     connection: carried(connection, came, State::Accepted),
@@ -378,12 +408,23 @@ fn request_again(connection: Connection, buffer: &[u8]) -> RequestAnswer
     }
 }
 
+// An accepted reply again: what it names was offered, so that it is read as to one who offered just that.
 fn reply_again(connection: Connection, buffer: &[u8]) -> ReplyAnswer
     requires { ⌜ connection .gathered ≤ length (now buffer) ⌝ }
     ensures { λ r. ⌜ toldReply r ≡ saysOf replyRead (held (toldConnection connection) (now (buffer .entry))) (again replyRead (toldConnection connection) (now (buffer .entry))) ⌝ }
 {
     let n = connection.gathered;
-    let judged = KeyExchangeResponse::judge(&buffer[0..n], connection.limit, n);
+    let limit = connection.limit;
+    let named = KeyExchangeResponse::named(&buffer[0..n], limit);
+    let protocols = [named.protocol.0];
+    let algorithms = [named.algorithm.0];
+    let judged = KeyExchangeResponse::judge(
+        &buffer[0..n],
+        limit,
+        &protocols[0..1],
+        &algorithms[0..1],
+        n,
+    );
     let answer = judged.answer;
     match answer {
         reply::Answer::Accepted(x) => ReplyAnswer::Accepted(x),
@@ -612,13 +653,24 @@ pub fn hand_over(
     expected: Expected,
     closed: bool,
     piece: &[u8],
+    protocols: &[u16],
+    algorithms: &[u16],
     buffer: &mut [u8],
     table: &mut [u16],
 ) -> Answer
-    ensures { λ r. ⌜ HandsOver (now (connection .entry)) expected (now (piece .entry)) closed (now (buffer .entry)) (now (table .entry))
+    ensures { λ r. ⌜ HandsOver (now (connection .entry)) expected (now (piece .entry)) closed (now (protocols .entry)) (now (algorithms .entry)) (now (buffer .entry)) (now (table .entry))
         (record { connection = now (connection .exit); answer = r }) (now (buffer .exit)) (now (table .exit)) ⌝ }
 {
-    let s = hand(*connection, expected, closed, piece, buffer, table);
+    let s = hand(
+        *connection,
+        expected,
+        closed,
+        piece,
+        protocols,
+        algorithms,
+        buffer,
+        table,
+    );
     *connection = s.connection;
     s.answer
 }

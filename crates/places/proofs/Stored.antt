@@ -11,7 +11,7 @@ use Rattle.wire.specs.Over.{over}
 use Rattle.wire.proofs.Over.{over-none}
 use Rattle.nts.specs.Refusal.{Refused}
 use Rattle.walk.specs.Walk.{notes, Reader, Sighting, Outcome, stopped, ended, walk}
-use Rattle.walk.specs.Judge.{Verdict, no, yes, Under, Judge, ofKind, bodyIn, Answer, refused, accepted, placed, finish, readBy}
+use Rattle.walk.specs.Judge.{Verdict, no, yes, Terms, Under, Judge, ofKind, bodyIn, Answer, refused, accepted, placed, finish, readBy}
 use Rattle.walk.specs.Found.{placeOf}
 use Rattle.walk.proofs.Meets.{place-between}
 use Rattle.walk.proofs.Noted.{Inside, walk-inside}
@@ -31,9 +31,9 @@ none-stored (x ∷ l) t e = absurd (omega arith)
 
 -- a reader that notes every record of kind k, as often as it stands; F says what an answer stores, and no refusal stores any
 module _ (R : Reader) (k : ℕ) (always : (bit : Bool) (b : List ℕ) → R .act k bit b ≡ notes) (often : R .once k ≡ false) (D : Judge) (F : Answer (D .Q) → List Sighting)
-    (none : (r : Refused) → F (refused r) ≡ []) (m : List ℕ) (n : ℕ) (t : List ℕ) where
+    (none : (r : Refused) → F (refused r) ≡ []) (m : List ℕ) (n : ℕ) (x : Terms) (t : List ℕ) where
   abbrev u : Under
-  u = record { limit = n; room = roomOf t }
+  u = record { limit = n; terms = x }
 
   -- of what was noted: an accepted answer that stores any stores all of the kind, and there is room
   abbrev pub Stores : List Sighting → D .Q Sighting → Type 0

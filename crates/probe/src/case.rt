@@ -42,6 +42,11 @@ pub(super) fn behind_numbers(s: &[u8], at: usize) -> usize {
     behind(s, behind(s, at, 2), 2 * (number16(s, at) as usize))
 }
 
+// Where a one-byte count and the bytes of that many numbers end: those of a list that was offered.
+pub(super) fn behind_offered(s: &[u8], at: usize) -> usize {
+    behind(s, behind(s, at, 1), 2 * (wire::byte_at(s, at) as usize))
+}
+
 // The bytes that are counted at a place.
 pub(super) fn counted(s: &[u8], at: usize) -> &[u8] {
     wire::part(rest(s, at), 2, number16(s, at) as usize)
@@ -50,6 +55,11 @@ pub(super) fn counted(s: &[u8], at: usize) -> &[u8] {
 // The bytes of the numbers that are counted at a place.
 pub(super) fn numbers(s: &[u8], at: usize) -> &[u8] {
     wire::part(rest(s, at), 2, 2 * (number16(s, at) as usize))
+}
+
+// The bytes of the numbers that are offered at a place.
+pub(super) fn offered(s: &[u8], at: usize) -> &[u8] {
+    wire::part(rest(s, at), 1, 2 * (wire::byte_at(s, at) as usize))
 }
 
 // The numbers of some bytes as cells, as far as there are cells: how many.

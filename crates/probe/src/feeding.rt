@@ -34,9 +34,49 @@ pub struct Compared {
     pub same: bool,
 }
 
-// A limit, a number of cells, the buffer's length, whether the line is closed, and the pieces behind their number.
-pub(super) fn answer(
-    op: u8,
+// Op f: a limit, a number of cells, the buffer's length, whether the line is closed, and the pieces behind their number.
+pub(super) fn of_request(
+    case: &[u8],
+    dst: &mut [u8],
+    table: &mut [u16],
+    out: &mut [u8],
+    at: usize,
+) -> usize {
+    let none = [0u16; 1];
+    let list = &none[0..0];
+    answer(Expected::Request, list, list, case, dst, table, out, at)
+}
+
+// Op F: the two lists that were offered, and the same.
+pub(super) fn of_reply(
+    case: &[u8],
+    dst: &mut [u8],
+    table: &mut [u16],
+    out: &mut [u8],
+    at: usize,
+) -> usize {
+    let mut protocols = [0u16; 255];
+    let mut algorithms = [0u16; 255];
+    let second = case::behind_offered(case, 0);
+    let n = case::put_cells(case::offered(case, 0), &mut protocols);
+    let m = case::put_cells(case::offered(case, second), &mut algorithms);
+    let fed = case::rest(case, case::behind_offered(case, second));
+    answer(
+        Expected::Reply,
+        &protocols[0..n],
+        &algorithms[0..m],
+        fed,
+        dst,
+        table,
+        out,
+        at,
+    )
+}
+
+fn answer(
+    expected: Expected,
+    protocols: &[u16],
+    algorithms: &[u16],
     case: &[u8],
     dst: &mut [u8],
     table: &mut [u16],
@@ -49,7 +89,9 @@ pub(super) fn answer(
         if cells <= table.len() {
             if room <= dst.len() {
                 return put_fed(
-                    expected_by(op),
+                    expected,
+                    protocols,
+                    algorithms,
                     case,
                     &mut dst[0..room],
                     &mut table[0..cells],
@@ -76,52 +118,61 @@ fn pieces_of(case: &[u8]) -> u16 {
     case::number16(case, 11)
 }
 
-fn expected_by(op: u8) -> Expected {
-    match op {
-        b'F' => Expected::Reply,
-        _ => Expected::Request,
-    }
-}
-
 fn put_fed(
     expected: Expected,
+    protocols: &[u16],
+    algorithms: &[u16],
     case: &[u8],
     buffer: &mut [u8],
     table: &mut [u16],
     out: &mut [u8],
     at: usize,
 ) -> usize {
-    let fed = feed(expected, case, buffer, table);
+    let fed = feed(expected, protocols, algorithms, case, buffer, table);
     put_line(case, fed, buffer, table, out, at)
 }
 
 // ---- the calls
 
-fn feed(expected: Expected, case: &[u8], buffer: &mut [u8], table: &mut [u16]) -> Fed {
+fn feed(
+    expected: Expected,
+    protocols: &[u16],
+    algorithms: &[u16],
+    case: &[u8],
+    buffer: &mut [u8],
+    table: &mut [u16],
+) -> Fed {
     lent::fill(buffer);
     lent::fill_cells(table);
     let calls = pieces_of(case) as usize + wire::byte_at(case, 10) as usize;
-    feed_each(expected, calls, case, buffer, table)
+    feed_each(expected, protocols, algorithms, calls, case, buffer, table)
+}
+
+// Before the first call.
+fn begun(case: &[u8]) -> Fed {
+    Fed {
+        connection: Connection::start(case::number16(case, 2)),
+        answer: Answer::Waiting,
+        call: 0,
+        intact: true,
+        next: PIECES,
+    }
 }
 
 // Every call, also those after an answer.
 fn feed_each(
     expected: Expected,
+    protocols: &[u16],
+    algorithms: &[u16],
     calls: usize,
     case: &[u8],
     buffer: &mut [u8],
     table: &mut [u16],
 ) -> Fed {
     let mut i = 0;
-    let mut fed = Fed {
-        connection: Connection::start(case::number16(case, 2)),
-        answer: Answer::Waiting,
-        call: 0,
-        intact: true,
-        next: PIECES,
-    };
+    let mut fed = begun(case);
     while i < calls {
-        fed = feed_next(expected, i, case, fed, buffer, table);
+        fed = feed_next(expected, protocols, algorithms, i, case, fed, buffer, table);
         i += 1;
     }
     fed
@@ -130,6 +181,8 @@ fn feed_each(
 // The call of an index: it hands over the next piece, or closes the line behind the last one.
 fn feed_next(
     expected: Expected,
+    protocols: &[u16],
+    algorithms: &[u16],
     i: usize,
     case: &[u8],
     fed: Fed,
@@ -144,6 +197,8 @@ fn feed_next(
         expected,
         i == pieces_of(case) as usize,
         case::counted(case, fed.next),
+        protocols,
+        algorithms,
         buffer,
         &mut table[0..cells],
     );
@@ -257,7 +312,7 @@ fn cells_of_reply(reply: KeyExchangeResponse) -> [usize; 10] {
 
 fn cells_of_refusal(refusal: Refusal) -> [usize; 10] {
     let error = refusal.error;
-    let n = error.number() as usize;
+    let n = cells::mark(error) as usize;
     let c = cells::beside(error) as usize;
     [5, n, c, refusal.place, 0, 0, 0, 0, 0, 0]
 }

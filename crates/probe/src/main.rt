@@ -37,7 +37,8 @@ fn answer(
 ) -> usize {
     let cells = table.len() / 2;
     match op {
-        b'f' | b'F' => feeding::answer(op, case, dst, table, out, at),
+        b'f' => feeding::of_request(case, dst, table, out, at),
+        b'F' => feeding::of_reply(case, dst, table, out, at),
         b'q' | b'Q' | b'L' | b'V' | b'y' | b'l' => {
             whole::answer(op, case, &mut table[0..cells], out, at)
         }

@@ -1,4 +1,5 @@
 // The answer to a reply: ops y, l and F.
+use super::case;
 use super::lent;
 use super::text;
 use reply::Answer;
@@ -55,15 +56,40 @@ pub(super) fn put_reply(
     lent::put_entries(out, to, b" cookies ", message, table, reply.cookies)
 }
 
-// A message under a limit, with a table that was filled for the call.
+// The two lists that were offered and a message, under a limit, with a table that was filled for the call.
 pub(super) fn put_answer(
-    message: &[u8],
+    case: &[u8],
     limit: u16,
     table: &mut [u16],
     out: &mut [u8],
     at: usize,
 ) -> usize {
-    let answer = KeyExchangeResponse::parse(message, limit, table);
+    let second = case::behind_offered(case, 0);
+    let behind = case::behind_offered(case, second);
+    if behind <= case.len() {
+        let answer = read(case, second, behind, limit, table);
+        return put_read(out, at, &case[behind..], table, answer);
+    }
+    text::bad_case(out, at)
+}
+
+// What is read where the second list and the message are at these places of a case.
+fn read(case: &[u8], second: usize, behind: usize, limit: u16, table: &mut [u16]) -> Answer {
+    let mut protocols = [0u16; 255];
+    let mut algorithms = [0u16; 255];
+    let n = case::put_cells(case::offered(case, 0), &mut protocols);
+    let m = case::put_cells(case::offered(case, second), &mut algorithms);
+    KeyExchangeResponse::parse(
+        case::rest(case, behind),
+        limit,
+        &protocols[0..n],
+        &algorithms[0..m],
+        table,
+    )
+}
+
+// What a call answered and left in that table.
+fn put_read(out: &mut [u8], at: usize, message: &[u8], table: &[u16], answer: Answer) -> usize {
     match answer {
         Answer::Accepted(reply) => {
             let to = put_reply(out, at, message, table, reply);

@@ -122,6 +122,6 @@ pub(super) fn put_refusal_at(out: &mut [u8], at: usize, refusal: Refusal) -> usi
     let code = error.code();
     match code {
         Code::None => place,
-        Code::Number(n) => put_number(out, place, b" code ", n as u64),
+        _ => put_number(out, place, b" code ", cells::beside(error) as u64),
     }
 }

@@ -28,7 +28,7 @@ fn sort_of(op: u8) -> Sort {
     }
 }
 
-// Ops q, Q and y: a message, with this limit and all of the table.
+// Ops q, Q and y: a message, a reply behind the lists that were offered, with this limit and all of the table.
 fn under(
     sort: Sort,
     limit: u16,
@@ -44,7 +44,7 @@ fn under(
     }
 }
 
-// Ops L and l: a limit, a number of cells, and the message.
+// Ops L and l: a limit, a number of cells, and the same.
 fn limited(sort: Sort, case: &[u8], table: &mut [u16], out: &mut [u8], at: usize) -> usize {
     let limit = case::number16(case, 0);
     let cells = case::number16(case, 2) as usize;

@@ -8,6 +8,7 @@ use native.Mathlib.Omega.{arith}
 use lib.ListN.{length, take, drop}
 use lib.Dec.{eqb}
 use Rattle.walk.specs.Judge as judge
+use Rattle.walk.specs.Judge.{Terms}
 use Rattle.pieces.specs.Pieces.{Line, Standing, pending, accepted, refused, Brought, broken, inside, full, joined, fitting, Going, waits, decides, going, How, waiting, noRoom, decided, otherwise, cameTo, comes, beginsAt, Read, Fed, none, answers, refusedAt, answerAfter, firstAnswer, again, byStanding, answerOf, nothingYet, saysOf}
 
 no-wait : (w : How) → w ≡ noRoom → w ≡ waiting → ⊥
@@ -33,7 +34,7 @@ module _ (X : Read) (c : Line) (b : List ℕ) (h : Brought) (closed : h .closed 
       go (waits at met) e = otherwise-closed e
       go (decides at met through) e = decided-waits decided refl e
 
-  pub closed-says : (m : List ℕ) (room : ℕ) → saysOf X m (answerOf X c b h room) ≡ nothingYet → ⊥
+  pub closed-says : (m : List ℕ) (room : Terms) → saysOf X m (answerOf X c b h room) ≡ nothingYet → ⊥
   unfolding answerOf firstAnswer again
   closed-says m room = go (broken c b) (c .standing)
     where

@@ -8,7 +8,7 @@ use native.Mathlib.Omega.{arith}
 use lib.ListN.{length, take}
 use lib.Dec.{ltb, eqb}
 use borrow.Author.Tests.{eqb-true, eqb-false, eq-eqb, ne-eqb, ltb-true, ltb-false}
-use Rattle.nts.specs.Refusal.{Beside, nothing, code}
+use Rattle.nts.specs.Refusal.{Beside, nothing, code, protocol, algorithm}
 use Rattle.walk.specs.Walk.{Sighting}
 use Rattle.walk.specs.Judge.{ofKind}
 use Rattle.walk.specs.Table.{known}
@@ -169,9 +169,14 @@ lines-length (x ∷ l) = lines-append (lineOf x) (linesOf l) ∙ omega (arith, l
 then : (t u : List ℕ) → linesIn t ≡ 0 → linesIn (t ++ u) ≡ linesIn u
 then t u e = lines-append t u ∙ ap (λ (k : ℕ). k + linesIn u) e ∙ omega arith
 
+code-none : (n : ℕ) → linesIn (codeText ++ digits n) ≡ 0
+code-none n = then codeText (digits n) refl ∙ digits-none n
+
 beside-none : (b : Beside) → linesIn (besideText b) ≡ 0
 beside-none nothing = refl
-beside-none (code n) = then codeText (digits n) refl ∙ digits-none n
+beside-none (code n) = code-none n
+beside-none (protocol n) = code-none n
+beside-none (algorithm n) = code-none n
 
 answer-none : (t : Told) → linesIn (answerText t) ≡ 0
 answer-none (keyExchangeIs p a d) =

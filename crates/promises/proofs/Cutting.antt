@@ -16,7 +16,7 @@ use Rattle.nts.specs.Refusal.{Refused}
 use Rattle.record.specs.Record.{kind}
 use Rattle.walk.specs.Walk.{Reader, ends, actIn, Sighting, Outcome, stopped, ended, walk}
 use Rattle.walk.specs.Judge as judge
-use Rattle.walk.specs.Judge.{Under, Judge, Verdict, no, yes, ofKind, bodyIn, placed, finish, readBy}
+use Rattle.walk.specs.Judge.{Terms, roomFor, Under, Judge, Verdict, no, yes, ofKind, bodyIn, placed, finish, readBy}
 use Rattle.walk.specs.Rules.{readerOf}
 use Rattle.walk.proofs.Noted.{Inside, walk-inside, walk-few, kind-inside}
 use Rattle.walk.proofs.Meets.{place-between}
@@ -25,7 +25,7 @@ use Rattle.pieces.specs.Pieces as pieces
 use Rattle.pieces.specs.Pieces.{Line, broken, Standing, pending, accepted, refused, Brought, joined, inside, Going, waits, decides, going, How, waiting, noRoom}
 use Rattle.pieces.specs.Pieces.{Came, comes, Read, Fed, none, answers, refusedAt, answerAfter, firstAnswer, again, byStanding, answerOf, isPending, standingBy, lineAfter}
 use Rattle.pieces.specs.Pieces.{bufferAfter, filledBy, tableAfter, says, saysOf, held, Hands}
-use Rattle.promises.specs.Pieces.{decided, lacksRoom, undecided, answerOn, heldOn, Made, lineIn, bufferIn, OnLine, joinedIn, Told, roomIn, Stands, Repeated, Feeder, madeBy, HoweverCut}
+use Rattle.promises.specs.Pieces.{decided, lacksRoom, undecided, answerOn, heldOn, Made, lineIn, bufferIn, OnLine, joinedIn, Told, termsIn, Stands, Repeated, Feeder, madeBy, HoweverCut}
 use Rattle.pieces.proofs.Going.{Reaches, going-reaches, going-decides-more}
 use Rattle.pieces.proofs.Storing.{over-again}
 use Rattle.pieces.proofs.Stopping.{Stops, stops-first}
@@ -49,14 +49,14 @@ pub record Local (X : Read) : Type 1 where
       → X .judging .mapQ (bodyIn (m ++ t)) q ≡ X .judging .mapQ (bodyIn m) q
   -- kind 0 ends a message
   pub ends : (e : List ℕ) → kind e ≡ 0 → actIn (X .reader) e ≡ ends
-  -- what is accepted is so with room for all that was found
-  pub roomy : (n room room′ : ℕ) (l : ℕ → List Sighting) (val : Sighting → List ℕ) (q : X .judging .Q Sighting) → ((k : ℕ) → length (l k) ≤ room′)
-      → X .judging .decide (record { limit = n; room = room }) val l ≡ yes q → X .judging .decide (record { limit = n; room = room′ }) val l ≡ yes q
+  -- what is accepted is so with room for all that was found, where every number is let in
+  pub roomy : (n : ℕ) (x : Terms) (room : ℕ) (l : ℕ → List Sighting) (val : Sighting → List ℕ) (q : X .judging .Q Sighting) → ((k : ℕ) → length (l k) ≤ room)
+      → X .judging .decide (record { limit = n; terms = x }) val l ≡ yes q → X .judging .decide (record { limit = n; terms = roomFor room }) val l ≡ yes q
 
 -- ---- what is known of a call: that it meets the contract's definition
 
 abbrev pub Meets : (X : Read) → Made X → Type 0
-Meets X x = Hands X (x .before) (x .lent) (x .brought) (x .room) (x .table) (x .said) (x .after) (x .left) (x .filled)
+Meets X x = Hands X (x .before) (x .lent) (x .brought) (x .terms) (x .table) (x .said) (x .after) (x .left) (x .filled)
 
 abbrev pub All : {X : Read} → List (Made X) → Type 0
 All [] = Unit {0}
@@ -71,8 +71,8 @@ module _ (X : Read) (L : Local X) where
   abbrev D : Judge
   D = X .judging
 
-  abbrev under : ℕ → ℕ → Under
-  under n room = record { limit = n; room = room }
+  abbrev under : ℕ → Terms → Under
+  under n x = record { limit = n; terms = x }
 
   pub stops-in : (s : List ℕ) → Stops R [] 0 s (going R 0 0 0 s)
   stops-in s = subst (λ (r : Reader). Stops r [] 0 s (going r 0 0 0 s)) (L .table) (stops-first (L .rules) s)
@@ -81,17 +81,17 @@ module _ (X : Read) (L : Local X) where
   noted-inside m n at next st e k = kind-inside (length m) k st (walk-inside R [] 0 0 (take n m) (length m) at next st (simp length-take (omega arith)) tt e)
 
   -- a front of the message at which the walk stops as at the whole of it is read as the whole
-  read-front : (i n room : ℕ) (j : List ℕ) → walk R [] 0 0 (take n (take i j)) ≡ walk R [] 0 0 (take n j)
-      → readBy R D (take i j) (under n room) ≡ readBy R D j (under n room)
+  read-front : (i n : ℕ) (cells : Terms) (j : List ℕ) → walk R [] 0 0 (take n (take i j)) ≡ walk R [] 0 0 (take n j)
+      → readBy R D (take i j) (under n cells) ≡ readBy R D j (under n cells)
   unfolding readBy finish
-  read-front i n room j e = go (walk R [] 0 0 (take n (take i j))) refl ∙ ap (finish D (under n room) j) e
+  read-front i n cells j e = go (walk R [] 0 0 (take n (take i j))) refl ∙ ap (finish D (under n cells) j) e
     where
-      go : (o : Outcome) → walk R [] 0 0 (take n (take i j)) ≡ o → finish D (under n room) (take i j) o ≡ finish D (under n room) j o
+      go : (o : Outcome) → walk R [] 0 0 (take n (take i j)) ≡ o → finish D (under n cells) (take i j) o ≡ finish D (under n cells) j o
       go (stopped r) w = refl
       go (ended at next st) w =
           ap (placed at)
-          (sym (L .decides (under n room) (λ k. ofKind k st) (take i j) (drop i j) (noted-inside (take i j) n at next st w))
-          ∙ ap (λ (s : List ℕ). D .decide (under n room) (bodyIn s) (λ k. ofKind k st)) (take-append-drop i j))
+          (sym (L .decides (under n cells) (λ k. ofKind k st) (take i j) (drop i j) (noted-inside (take i j) n at next st w))
+          ∙ ap (λ (s : List ℕ). D .decide (under n cells) (bodyIn s) (λ k. ofKind k st)) (take-append-drop i j))
 
   -- such a front reaches through the record that decides
   walk-front : (n room : ℕ) (j : List ℕ) (a m to : ℕ) → going R 0 0 0 (fit n room j) ≡ decides a m to → walk R [] 0 0 (take n (take to j)) ≡ walk R [] 0 0 (take n j)
@@ -124,10 +124,10 @@ module _ (X : Read) (L : Local X) where
   walk-all n room j l = ap (λ (s : List ℕ). walk R [] 0 0 (take n s)) (fit-front n room j ∙ fit-all n room j l) ∙ ap (walk R [] 0 0) (take-take n n j (omega arith))
 
   -- what is answered from what the bytes come to
-  abbrev given : ℕ → ℕ → List ℕ → Came → Fed (D .Q)
+  abbrev given : ℕ → Terms → List ℕ → Came → Fed (D .Q)
   given n cells j x = answerAfter X n (x .how) (take (x .gathered) j) cells
 
-  pub answer-is : (n room : ℕ) (j : List ℕ) (closed : Bool) (cells : ℕ) → given n cells j (cameOn R n room j closed) ≡ answerOn X n room (record { piece = j; closed = closed }) cells
+  pub answer-is : (n room : ℕ) (j : List ℕ) (closed : Bool) (cells : Terms) → given n cells j (cameOn R n room j closed) ≡ answerOn X n room (record { piece = j; closed = closed }) cells
   unfolding answerOn
   answer-is n room j closed cells = go closed (coming R n room j closed)
     where
@@ -154,7 +154,7 @@ module _ (X : Read) (L : Local X) where
           ∙ rw (lacks-room R stops-in n room j l, undecided-lasts R stops-in n room j d l h))
 
   -- it is told of all bytes as of those gathered
-  says-is : (n cells i : ℕ) (j : List ℕ) (w : How) → saysOf X (take i j) (answerAfter X n w (take i j) cells) ≡ saysOf X j (answerAfter X n w (take i j) cells)
+  says-is : (n : ℕ) (cells : Terms) (i : ℕ) (j : List ℕ) (w : How) → saysOf X (take i j) (answerAfter X n w (take i j) cells) ≡ saysOf X j (answerAfter X n w (take i j) cells)
   says-is n cells i j waiting = refl
   says-is n cells i j noRoom = ap says (L .refuses (take i j) j _)
   says-is n cells i j pieces.decided =
@@ -163,7 +163,7 @@ module _ (X : Read) (L : Local X) where
       ∙ ap (λ (s : List ℕ). X .tells s (readBy R D (take i j) (under n cells))) (take-append-drop i j))
 
   -- and the bytes gathered are read as all of them, where neither a byte has no room nor the read may go on
-  pub read-held : (n room : ℕ) (j : List ℕ) (closed : Bool) (cells : ℕ) → lacksRoom R n room j ≡ false → undecided R n (record { piece = j; closed = closed }) ≡ false
+  pub read-held : (n room : ℕ) (j : List ℕ) (closed : Bool) (cells : Terms) → lacksRoom R n room j ≡ false → undecided R n (record { piece = j; closed = closed }) ≡ false
       → readBy R D (take (heldOn R n room j) j) (under n cells) ≡ readBy R D j (under n cells)
   read-held n room j closed cells l u = go closed (coming R n room j closed) u
     where
@@ -188,7 +188,7 @@ module _ (X : Read) (L : Local X) where
   -- ---- one call
 
   -- an answer that waits leaves the line pending, and no other does
-  only-waiting : (n cells : ℕ) (w : How) (s : List ℕ) → standingBy (answerAfter X n w s cells) ≡ pending → w ≡ waiting
+  only-waiting : (n : ℕ) (cells : Terms) (w : How) (s : List ℕ) → standingBy (answerAfter X n w s cells) ≡ pending → w ≡ waiting
   only-waiting n cells waiting s e = refl
   only-waiting n cells noRoom s e = let z : _≡_ {A = ℕ} 0 1 = cc in absurd (omega arith)
   only-waiting n cells pieces.decided s e = go (readBy R D s (under n cells)) e
@@ -204,23 +204,23 @@ module _ (X : Read) (L : Local X) where
   not-lacking w e q = let z : _≡_ {A = ℕ} 0 1 = cc in omega arith
 
   -- what is accepted is so with as much room as the message has bytes
-  room-enough : (m : List ℕ) (n room room′ : ℕ) (q : D .Q Sighting) → length m ≤ room′ → readBy R D m (under n room) ≡ judge.accepted q
-      → readBy R D m (under n room′) ≡ judge.accepted q
+  room-enough : (m : List ℕ) (n : ℕ) (cells : Terms) (room : ℕ) (q : D .Q Sighting) → length m ≤ room → readBy R D m (under n cells) ≡ judge.accepted q
+      → readBy R D m (under n (roomFor room)) ≡ judge.accepted q
   unfolding readBy finish
-  room-enough m n room room′ q l = go (walk R [] 0 0 (take n m)) refl
+  room-enough m n cells room q l = go (walk R [] 0 0 (take n m)) refl
     where
       placed-yes : (at : ℕ) (v : Verdict (D .Q) Sighting) → placed at v ≡ judge.accepted q → v ≡ yes q
       placed-yes at (no k b) g = cc
       placed-yes at (yes q′) g = cc
 
-      few : (at next : ℕ) (st : List Sighting) → walk R [] 0 0 (take n m) ≡ ended at next st → (k : ℕ) → length (ofKind k st) ≤ room′
+      few : (at next : ℕ) (st : List Sighting) → walk R [] 0 0 (take n m) ≡ ended at next st → (k : ℕ) → length (ofKind k st) ≤ room
       few at next st w k =
           let i : at ≤ length m = rw w at (place-between R [] 0 0 (take n m) (length m) (omega arith) (simp length-take (omega arith)) .1) in
           omega (arith, few-kind k st, walk-few R [] 0 0 (take n m) at next st w)
 
-      go : (o : Outcome) → walk R [] 0 0 (take n m) ≡ o → finish D (under n room) m o ≡ judge.accepted q → finish D (under n room′) m o ≡ judge.accepted q
+      go : (o : Outcome) → walk R [] 0 0 (take n m) ≡ o → finish D (under n cells) m o ≡ judge.accepted q → finish D (under n (roomFor room)) m o ≡ judge.accepted q
       go (stopped r) w e = e
-      go (ended at next st) w e = ap (placed at) (L .roomy n room room′ (λ k. ofKind k st) (bodyIn m) q (few at next st w) (placed-yes at _ e))
+      go (ended at next st) w e = ap (placed at) (L .roomy n cells room (λ k. ofKind k st) (bodyIn m) q (few at next st w) (placed-yes at _ e))
 
   module _ (n : ℕ) (b j : List ℕ) (x : Made X) (k : Meets X x) (w : Waits R n b j (x .before) (x .lent)) where
     abbrev c : Line
@@ -247,31 +247,31 @@ module _ (X : Read) (L : Local X) where
     joins : joined c (x .lent) h ≡ piece
     joins = joined-is R n b j c (x .lent) w h
 
-    first-is : firstAnswer X c (x .lent) h (x .room) ≡ given n (x .room) piece to
+    first-is : firstAnswer X c (x .lent) h (x .terms) ≡ given n (x .terms) piece to
     unfolding firstAnswer
     first-is =
-        ap (λ (k : ℕ). answerAfter X k (from .how) (take (from .gathered) (joined c (x .lent) h)) (x .room)) (w .limit)
-        ∙ ap (λ (s : List ℕ). given n (x .room) s from) joins
-        ∙ ap (given n (x .room) piece) comes-to
+        ap (λ (k : ℕ). answerAfter X k (from .how) (take (from .gathered) (joined c (x .lent) h)) (x .terms)) (w .limit)
+        ∙ ap (λ (s : List ℕ). given n (x .terms) s from) joins
+        ∙ ap (given n (x .terms) piece) comes-to
 
-    pub answer-of : answerOf X c (x .lent) h (x .room) ≡ given n (x .room) piece to
+    pub answer-of : answerOf X c (x .lent) h (x .terms) ≡ given n (x .terms) piece to
     unfolding answerOf
     answer-of =
         ap (λ (t : Bool). cond t (refusedAt 9 0) (by (c .standing))) (waits-sound R n b j c (x .lent) w) ∙ ap by (w .standing) ∙ first-is
       where
         by : Standing → Fed (D .Q)
-        by s = byStanding s (firstAnswer X c (x .lent) h (x .room)) (again X c (x .lent)) (λ r. answers (judge.refused r))
+        by s = byStanding s (firstAnswer X c (x .lent) h (x .terms)) (again X c (x .lent)) (λ r. answers (judge.refused r))
 
     abbrev lineBy : ℕ → Came → Fed (D .Q) → Line
     lineBy k y f = record { limit = k; gathered = y .gathered; begins = y .begins; met = y .met; standing = standingBy f }
 
-    after-is : x .after ≡ lineBy n to (given n (x .room) piece to)
+    after-is : x .after ≡ lineBy n to (given n (x .terms) piece to)
     unfolding lineAfter
     after-is =
         k .line
-        ∙ ap (λ (t : Bool). cond t (lineBy (c .limit) from (firstAnswer X c (x .lent) h (x .room))) c) is-pending
-        ∙ ap (λ (k : ℕ). lineBy k from (firstAnswer X c (x .lent) h (x .room))) (w .limit)
-        ∙ ap (λ (y : Came). lineBy n y (firstAnswer X c (x .lent) h (x .room))) comes-to
+        ∙ ap (λ (t : Bool). cond t (lineBy (c .limit) from (firstAnswer X c (x .lent) h (x .terms))) c) is-pending
+        ∙ ap (λ (k : ℕ). lineBy k from (firstAnswer X c (x .lent) h (x .terms))) (w .limit)
+        ∙ ap (λ (y : Came). lineBy n y (firstAnswer X c (x .lent) h (x .terms))) comes-to
         ∙ ap (lineBy n to) first-is
 
     left-is : x .left ≡ over (take (to .gathered) piece) b
@@ -290,24 +290,24 @@ module _ (X : Read) (L : Local X) where
         ∙ ap (take (to .gathered)) left-is
         ∙ take-over (take (to .gathered) piece) b (to .gathered) (front-long R n b j c (x .lent) w h)
 
-    said-is : x .said ≡ saysOf X piece (given n (x .room) piece to)
+    said-is : x .said ≡ saysOf X piece (given n (x .terms) piece to)
     said-is =
         k .answer
         ∙ ap (saysOf X (held (x .after) (x .left))) answer-of
-        ∙ ap (λ (s : List ℕ). saysOf X s (given n (x .room) piece to)) held-front
-        ∙ says-is n (x .room) (to .gathered) piece (to .how)
+        ∙ ap (λ (s : List ℕ). saysOf X s (given n (x .terms) piece to)) held-front
+        ∙ says-is n (x .terms) (to .gathered) piece (to .how)
 
-    filled-is : x .filled ≡ filledBy X (given n (x .room) piece to) (x .table)
+    filled-is : x .filled ≡ filledBy X (given n (x .terms) piece to) (x .table)
     unfolding tableAfter
     filled-is =
         k .table
-        ∙ ap (λ (t : Bool). cond t (filledBy X (firstAnswer X c (x .lent) h (x .room)) (x .table)) (x .table)) is-pending
+        ∙ ap (λ (t : Bool). cond t (filledBy X (firstAnswer X c (x .lent) h (x .terms)) (x .table)) (x .table)) is-pending
         ∙ ap (λ (f : Fed (D .Q)). filledBy X f (x .table)) first-is
 
     -- it is told of the bytes joined
     call-told : Told X n b (record { piece = piece; closed = h .closed }) x
     call-told =
-        let a = answer-is n (length b) piece (h .closed) (x .room) in
+        let a = answer-is n (length b) piece (h .closed) (x .terms) in
         let g = held-is R stops-in n (length b) piece (h .closed) in
         record {
           answer = said-is ∙ ap (saysOf X piece) a;
@@ -322,7 +322,7 @@ module _ (X : Read) (L : Local X) where
     call-waits p = go (coming R n (length b) piece (h .closed))
       where
         yet : to .how ≡ waiting
-        yet = only-waiting n (x .room) (to .how) (take (to .gathered) piece) (sym (ap (λ (z : Line). z .standing) after-is) ∙ p)
+        yet = only-waiting n (x .terms) (to .how) (take (to .gathered) piece) (sym (ap (λ (z : Line). z .standing) after-is) ∙ p)
 
         go : Coming R n (length b) piece (h .closed) → Waits R n b piece (x .after) (x .left) × (h .closed ≡ false)
         go (deciding a m t e) = absurd (not-waiting (to .how) yet (ap (λ (z : Came). z .how) (came-decided R n (length b) piece (h .closed) a m t e)))
@@ -364,12 +364,12 @@ module _ (X : Read) (L : Local X) where
         rw (le-ltb (length (x .left)) (x .after .gathered) (omega (arith, g, s, l, f .2)), le-ltb (x .after .limit) (x .after .gathered) (omega (arith, g, n′, s, f .1)))
 
     -- .. and gives its answer again, whatever the next call brings
-    call-again : (x .after .standing ≡ pending → ⊥) → (h′ : Brought) (room : ℕ) → answerOf X (x .after) (x .left) h′ room ≡ given n (x .room) piece to
+    call-again : (x .after .standing ≡ pending → ⊥) → (h′ : Brought) (room : Terms) → answerOf X (x .after) (x .left) h′ room ≡ given n (x .terms) piece to
     unfolding answerOf again
     call-again p h′ room =
         ap (λ (t : Bool). cond t (refusedAt 9 0) (by (x .after .standing))) call-sound
         ∙ ap by (ap (λ (z : Line). z .standing) after-is)
-        ∙ go (given n (x .room) piece to) refl
+        ∙ go (given n (x .terms) piece to) refl
       where
         by : Standing → Fed (D .Q)
         by s = byStanding s (firstAnswer X (x .after) (x .left) h′ room) (again X (x .after) (x .left)) (λ r. answers (judge.refused r))
@@ -377,25 +377,25 @@ module _ (X : Read) (L : Local X) where
         front : List ℕ
         front = take (to .gathered) piece
 
-        was : (w : How) (q : D .Q Sighting) → answerAfter X n w front (x .room) ≡ answers (judge.accepted q) → readBy R D front (under n (x .room)) ≡ judge.accepted q
+        was : (w : How) (q : D .Q Sighting) → answerAfter X n w front (x .terms) ≡ answers (judge.accepted q) → readBy R D front (under n (x .terms)) ≡ judge.accepted q
         was waiting q e = let z : _≡_ {A = ℕ} 0 1 = cc in absurd (omega arith)
         was noRoom q e = let z : _≡_ {A = ℕ} 0 1 = cc in absurd (omega arith)
         was pieces.decided q e = cc
 
-        reads : (q : D .Q Sighting) → given n (x .room) piece to ≡ answers (judge.accepted q) → again X (x .after) (x .left) ≡ answers (judge.accepted q)
+        reads : (q : D .Q Sighting) → given n (x .terms) piece to ≡ answers (judge.accepted q) → again X (x .after) (x .left) ≡ answers (judge.accepted q)
         reads q e =
-            ap (λ (s : List ℕ). answers (readBy R D s (under (x .after .limit) (x .after .gathered)))) held-front
-            ∙ ap (λ (z : Line). answers (readBy R D front (under (z .limit) (z .gathered)))) after-is
-            ∙ ap answers (room-enough front n (x .room) (to .gathered) q (omega (arith, front-long R n b j c (x .lent) w h)) (was (to .how) q e))
+            ap (λ (s : List ℕ). answers (readBy R D s (under (x .after .limit) (roomFor (x .after .gathered))))) held-front
+            ∙ ap (λ (z : Line). answers (readBy R D front (under (z .limit) (roomFor (z .gathered))))) after-is
+            ∙ ap answers (room-enough front n (x .terms) (to .gathered) q (omega (arith, front-long R n b j c (x .lent) w h)) (was (to .how) q e))
 
-        go : (f : Fed (D .Q)) → given n (x .room) piece to ≡ f → by (standingBy f) ≡ f
+        go : (f : Fed (D .Q)) → given n (x .terms) piece to ≡ f → by (standingBy f) ≡ f
         go none e = absurd (p (ap (λ (z : Line). z .standing) after-is ∙ ap standingBy e))
         go (answers (judge.refused r)) e = refl
         go (answers (judge.accepted q)) e = reads q e
 
   -- ---- a call on a line with an answer
 
-  steady : (c : Line) (b : List ℕ) → (c .standing ≡ pending → ⊥) → (h h′ : Brought) (room room′ : ℕ) → answerOf X c b h room ≡ answerOf X c b h′ room′
+  steady : (c : Line) (b : List ℕ) → (c .standing ≡ pending → ⊥) → (h h′ : Brought) (room room′ : Terms) → answerOf X c b h room ≡ answerOf X c b h′ room′
   unfolding answerOf
   steady c b n h h′ room room′ = ap (cond (broken c b) (refusedAt 9 0)) (go (c .standing) n)
     where
@@ -462,18 +462,18 @@ module _ (X : Read) (L : Local X) where
         (call-told n b (joinedIn xs .piece) x (m .0) (finds x xs (o .0) (o .1) (i .0)))
 
     -- an answer is given again by the next call
-    line-again : (xs : List (Made X)) (x : Made X) → All (x ∷ xs) → OnLine n b (x ∷ xs) → (x .after .standing ≡ pending → ⊥) → (h : Brought) (room : ℕ)
-        → answerOf X (x .after) (x .left) h room ≡ answerOf X (x .before) (x .lent) (x .brought) (x .room)
+    line-again : (xs : List (Made X)) (x : Made X) → All (x ∷ xs) → OnLine n b (x ∷ xs) → (x .after .standing ≡ pending → ⊥) → (h : Brought) (room : Terms)
+        → answerOf X (x .after) (x .left) h room ≡ answerOf X (x .before) (x .lent) (x .brought) (x .terms)
     line-again xs x m o p h room = go (standing-is (x .before .standing))
       where
-        go : (x .before .standing ≡ pending) ⊎ (x .before .standing ≡ pending → ⊥) → answerOf X (x .after) (x .left) h room ≡ answerOf X (x .before) (x .lent) (x .brought) (x .room)
+        go : (x .before .standing ≡ pending) ⊎ (x .before .standing ≡ pending → ⊥) → answerOf X (x .after) (x .left) h room ≡ answerOf X (x .before) (x .lent) (x .brought) (x .terms)
         go (inl e) =
             let w = finds x xs (o .0) (o .1) (line-waits xs (m .1) (o .2) (ap (λ (l : Line). l .standing) (sym (o .0)) ∙ e) .0) in
             call-again n b (joinedIn xs .piece) x (m .0) w p h room ∙ sym (answer-of n b (joinedIn xs .piece) x (m .0) w)
         go (inr q) =
             ap (λ (l : Line). answerOf X l (x .left) h room) (quiet-line x (m .0) q)
             ∙ ap (λ (s : List ℕ). answerOf X (x .before) s h room) (quiet-buffer x (m .0) q)
-            ∙ steady (x .before) (x .lent) q h (x .brought) room (x .room)
+            ∙ steady (x .before) (x .lent) q h (x .brought) room (x .terms)
 
     line-later : (xs : List (Made X)) (x y : Made X) → All (y ∷ x ∷ xs) → OnLine n b (y ∷ x ∷ xs) → (x .after .standing ≡ pending → ⊥) → Repeated X x y
     line-later xs x y m o p =
@@ -483,11 +483,11 @@ module _ (X : Read) (L : Local X) where
         record {
           answer =
               m .0 .answer
-              ∙ ap (λ (l : Line). saysOf X (held l (y .left)) (answerOf X (y .before) (y .lent) (y .brought) (y .room))) line
-              ∙ ap (λ (s : List ℕ). saysOf X (held (x .after) s) (answerOf X (y .before) (y .lent) (y .brought) (y .room))) buffer
-              ∙ ap (λ (l : Line). saysOf X (held (x .after) (x .left)) (answerOf X l (y .lent) (y .brought) (y .room))) (o .0)
-              ∙ ap (λ (s : List ℕ). saysOf X (held (x .after) (x .left)) (answerOf X (x .after) s (y .brought) (y .room))) (o .1)
-              ∙ ap (saysOf X (held (x .after) (x .left))) (line-again xs x (m .1) (o .2) p (y .brought) (y .room))
+              ∙ ap (λ (l : Line). saysOf X (held l (y .left)) (answerOf X (y .before) (y .lent) (y .brought) (y .terms))) line
+              ∙ ap (λ (s : List ℕ). saysOf X (held (x .after) s) (answerOf X (y .before) (y .lent) (y .brought) (y .terms))) buffer
+              ∙ ap (λ (l : Line). saysOf X (held (x .after) (x .left)) (answerOf X l (y .lent) (y .brought) (y .terms))) (o .0)
+              ∙ ap (λ (s : List ℕ). saysOf X (held (x .after) (x .left)) (answerOf X (x .after) s (y .brought) (y .terms))) (o .1)
+              ∙ ap (saysOf X (held (x .after) (x .left))) (line-again xs x (m .1) (o .2) p (y .brought) (y .terms))
               ∙ sym (m .1 .0 .answer);
           line = line;
           buffer = buffer;
@@ -513,12 +513,12 @@ module _ (X : Read) (L : Local X) where
         omega (arith, length-take room (take n j), length-take n j, length-take room (take n (j ++ t)), length-take n (j ++ t), length-append j t) in
         sym (take-all i (fit n room (j ++ t)) l) ∙ fit-part n room (j ++ t) i k ∙ take-append-le i j t (fit-short n room j .0) ∙ fit-front n room j
 
-    abbrev Settled : Bool → ℕ → Type 0
+    abbrev Settled : Bool → Terms → Type 0
     Settled closed cells =
         (answerOn X n room (record { piece = j ++ t; closed = closed }) cells ≡ answerOn X n room (record { piece = j; closed = false }) cells)
         × (heldOn R n room (j ++ t) ≡ heldOn R n room j)
 
-    came-settled : (closed : Bool) (cells : ℕ) → cameOn R n room (j ++ t) closed ≡ cameOn R n room j false → Settled closed cells
+    came-settled : (closed : Bool) (cells : Terms) → cameOn R n room (j ++ t) closed ≡ cameOn R n room j false → Settled closed cells
     came-settled closed cells e =
         let g = cameOn R n room j false .gathered in
         let l : g ≤ length j = omega (arith, came-short R n room j false, fit-short n room j .0) in (
@@ -529,7 +529,7 @@ module _ (X : Read) (L : Local X) where
           sym (held-is R stops-in n room (j ++ t) closed) ∙ ap (λ (z : Came). z .gathered) e ∙ held-is R stops-in n room j false,
         )
 
-    settles : (closed : Bool) (cells : ℕ) → (answerOn X n room (record { piece = j; closed = false }) cells ≡ none → ⊥) → Settled closed cells
+    settles : (closed : Bool) (cells : Terms) → (answerOn X n room (record { piece = j; closed = false }) cells ≡ none → ⊥) → Settled closed cells
     settles closed cells p = go (coming R n room j false)
       where
         -- the bytes that fit are the same
@@ -562,7 +562,7 @@ module _ (X : Read) (L : Local X) where
   -- ---- after any calls
 
   -- an answer is told of more bytes as of those that gave it
-  answer-front : (n room : ℕ) (j t : List ℕ) (closed : Bool) (cells : ℕ) → saysOf X (j ++ t) (answerOn X n room (record { piece = j; closed = closed }) cells)
+  answer-front : (n room : ℕ) (j t : List ℕ) (closed : Bool) (cells : Terms) → saysOf X (j ++ t) (answerOn X n room (record { piece = j; closed = closed }) cells)
       ≡ saysOf X j (answerOn X n room (record { piece = j; closed = closed }) cells)
   unfolding answerOn
   answer-front n room j t closed cells = go (lacksRoom R n room j) (undecided R n (record { piece = j; closed = closed }))
@@ -578,21 +578,21 @@ module _ (X : Read) (L : Local X) where
 
   module _ (n : ℕ) (b : List ℕ) where
     abbrev Ever : Made X → List (Made X) → Type 0
-    Ever x xs = Stands X n b (joinedIn (x ∷ xs)) (roomIn x xs) x
+    Ever x xs = Stands X n b (joinedIn (x ∷ xs)) (termsIn x xs) x
 
     -- the first call, or one that finds no answer
-    room-first : (x : Made X) (xs : List (Made X)) → lineIn n xs .standing ≡ pending → roomIn x xs ≡ x .room
-    room-first x [] p = refl
-    room-first x (y ∷ ys) p = rw p
+    terms-first : (x : Made X) (xs : List (Made X)) → lineIn n xs .standing ≡ pending → termsIn x xs ≡ x .terms
+    terms-first x [] p = refl
+    terms-first x (y ∷ ys) p = rw p
 
     ever-first : (xs : List (Made X)) (x : Made X) → lineIn n xs .standing ≡ pending → Told X n b (joinedIn (x ∷ xs)) x → Ever x xs
-    ever-first xs x p t = rw (room-first x xs p) (record { answer = t .answer; standing = t .standing; gathered = t .gathered; buffer = t .buffer })
+    ever-first xs x p t = rw (terms-first x xs p) (record { answer = t .answer; standing = t .standing; gathered = t .gathered; buffer = t .buffer })
 
     -- one that finds an answer
-    room-later : (x y : Made X) (ys : List (Made X)) → (y .after .standing ≡ pending → ⊥) → roomIn x (y ∷ ys) ≡ roomIn y ys
-    room-later x y ys p = go (y .after .standing) p
+    terms-later : (x y : Made X) (ys : List (Made X)) → (y .after .standing ≡ pending → ⊥) → termsIn x (y ∷ ys) ≡ termsIn y ys
+    terms-later x y ys p = go (y .after .standing) p
       where
-        go : (s : Standing) → (s ≡ pending → ⊥) → byStanding s (x .room) (roomIn y ys) (λ r. roomIn y ys) ≡ roomIn y ys
+        go : (s : Standing) → (s ≡ pending → ⊥) → byStanding s (x .terms) (termsIn y ys) (λ r. termsIn y ys) ≡ termsIn y ys
         go pending q = absurd (q refl)
         go accepted q = refl
         go (refused r) q = refl
@@ -604,8 +604,8 @@ module _ (X : Read) (L : Local X) where
       abbrev t : List ℕ
       t = x .brought .piece
 
-      abbrev cells : ℕ
-      cells = roomIn y ys
+      abbrev cells : Terms
+      cells = termsIn y ys
 
       abbrev before : Fed (D .Q)
       before = answerOn X n (length b) (joinedIn (y ∷ ys)) cells
@@ -624,7 +624,7 @@ module _ (X : Read) (L : Local X) where
 
       ever-later : Ever x (y ∷ ys)
       ever-later =
-          rw (room-later x y ys p) (record {
+          rw (terms-later x y ys p) (record {
             answer = r .answer ∙ e .answer ∙ sym (answer-front n (length b) j t (joinedIn (y ∷ ys) .closed) cells) ∙ ap (saysOf X (j ++ t)) same;
             standing = ap (λ (l : Line). l .standing) (r .line) ∙ e .standing ∙ ap standingBy same;
             gathered = ap (λ (l : Line). l .gathered) (r .line) ∙ e .gathered ∙ sym (both .1);
@@ -659,5 +659,5 @@ module _ (X : Read) (L : Local X) where
       first = λ n b xs x o p. line-first n b (madeBy F xs) (F .made x) (all-meet (x ∷ xs)) o p;
       ever = λ n b xs x o c. line-ever n b (madeBy F xs) (F .made x) (all-meet (x ∷ xs)) o c;
       later = λ n b xs x y o p. line-later n b (madeBy F xs) (F .made x) (F .made y) (all-meet (y ∷ x ∷ xs)) o p;
-      settled = λ n b j t closed room p. settles n (length b) j t closed room p;
+      settled = λ n b j t closed cells p. settles n (length b) j t closed cells p;
     }

@@ -34,7 +34,7 @@ use Rattle.places.specs.Places.{roomOf}
 use Rattle.places.specs.declared.Filled.the-variants as filled
 use Rattle.request.specs.Request.{reader, request}
 use Rattle.request.specs.declared.Answer.the-variants as request-answer
-use Rattle.reply.specs.Reply.{replyOf}
+use Rattle.reply.specs.Reply.{replyOf, offering}
 use Rattle.reply.specs.declared.Answer.the-variants as reply-answer
 use Rattle.pieces.specs.Pieces.{toldState}
 use Rattle.pieces.specs.declared.RequestAnswer.the-variants as asked
@@ -140,14 +140,16 @@ request-judge-refuses κs a r e p y h =
     judge-refuses requestNumbers (now (a .0)) (request (now (a .0)) (a .1 .0) (a .1 .1 .0))
     (request-exactly .only (record { message = now (a .0); limit = a .1 .0; room = a .1 .1 .0 })) (p .says) y h .1
 
-pub reply-parse-refuses : (κs : _) (a : _) (r : _) (e : _) → reply-parse.Learnt κs a r e → (y : Refusal) → r ≡ reply-answer.Refused y → (now (e .1 .1 .0) ≡ now (a .1 .1 .0)) × In (numberOf (y .error)) replyNumbers
+pub reply-parse-refuses : (κs : _) (a : _) (r : _) (e : _) → reply-parse.Learnt κs a r e → (y : Refusal) → r ≡ reply-answer.Refused y → (now (e .1 .1 .1 .1 .0) ≡ now (a .1 .1 .1 .1 .0)) × In (numberOf (y .error)) replyNumbers
 reply-parse-refuses κs a r e p y h =
-    reply-refuses replyNumbers (reply-exactly .only (record { message = now (a .0); limit = a .1 .0; room = roomOf (now (a .1 .1 .0)) })) p y h
+    reply-refuses replyNumbers
+    (reply-exactly .only (record { message = now (a .0); limit = a .1 .0; terms = offering (now (a .1 .1 .0)) (now (a .1 .1 .1 .0)) (roomOf (now (a .1 .1 .1 .1 .0))) })) p y h
 
 pub reply-judge-refuses : (κs : _) (a : _) (r : _) (e : _) → reply-judge.Learnt κs a r e → (y : Refusal) → r .answer ≡ reply-answer.Refused y → In (numberOf (y .error)) replyNumbers
 reply-judge-refuses κs a r e p y h =
-    reply-answer-refuses replyNumbers (now (a .0)) (replyOf (now (a .0)) (a .1 .0) (a .1 .1 .0))
-    (reply-exactly .only (record { message = now (a .0); limit = a .1 .0; room = a .1 .1 .0 })) (p .says) y h .1
+    let u = offering (now (a .1 .1 .0)) (now (a .1 .1 .1 .0)) (a .1 .1 .1 .1 .0) in
+    reply-answer-refuses replyNumbers (now (a .0)) (replyOf (now (a .0)) (a .1 .0) u)
+    (reply-exactly .only (record { message = now (a .0); limit = a .1 .0; terms = u })) (p .says) y h .1
 
 -- ---- a read that is fed in pieces: a refusal may change connection and buffer, and no cell of the table (02, order 1)
 
@@ -156,16 +158,16 @@ pub pieces-feed-request-refuses : (κs : _) (a : _) (r : _) (e : _) → pieces-f
 pieces-feed-request-refuses κs a r e p y h = feed-request-refuses (a .0) r p y h
 
 pub pieces-feed-reply-refuses : (κs : _) (a : _) (r : _) (e : _) → pieces-feed-reply.Learnt κs a r e → (y : Refusal) → r .answer ≡ replied.Refused y
-    → (now (e .1 .1 .1 .1 .0) ≡ now (a .1 .1 .1 .1 .0)) × In (numberOf (y .error)) (orKept (toldState (a .0 .state)) feedReplyNumbers)
-pieces-feed-reply-refuses κs a r e p y h = feed-reply-refuses (a .0) r p y h
+    → (now (e .1 .1 .1 .1 .1 .1 .0) ≡ now (a .1 .1 .1 .1 .1 .1 .0)) × In (numberOf (y .error)) (orKept (toldState (a .0 .state)) feedReplyNumbers)
+pieces-feed-reply-refuses κs a r e p y h = feed-reply-refuses (a .0) r (now (a .1 .1 .1 .0)) (now (a .1 .1 .1 .1 .0)) p y h
 
 pub pieces-hand-refuses : (κs : _) (a : _) (r : _) (e : _) → pieces-hand.Learnt κs a r e → (y : Refusal) → r .answer ≡ handed.Refused y
-    → (now (e .1 .1 .1 .1 .1 .0) ≡ now (a .1 .1 .1 .1 .1 .0)) × In (numberOf (y .error)) (orKept (toldState (a .0 .state)) (expectedNumbers (a .1 .0)))
-pieces-hand-refuses κs a r e p y h = hands-over-refuses (a .0) (a .1 .0) _ _ _ _ r _ _ p y h
+    → (now (e .1 .1 .1 .1 .1 .1 .1 .0) ≡ now (a .1 .1 .1 .1 .1 .1 .1 .0)) × In (numberOf (y .error)) (orKept (toldState (a .0 .state)) (expectedNumbers (a .1 .0)))
+pieces-hand-refuses κs a r e p y h = hands-over-refuses (a .0) (a .1 .0) _ _ _ _ _ _ r _ _ p y h
 
 pub pieces-hand-over-refuses : (κs : _) (a : _) (r : _) (e : _) → pieces-hand-over.Learnt κs a r e → (y : Refusal) → r ≡ handed.Refused y
-    → (now (e .1 .1 .1 .1 .1 .0) ≡ now (a .1 .1 .1 .1 .1 .0)) × In (numberOf (y .error)) (orKept (toldState (now (a .0) .state)) (expectedNumbers (a .1 .0)))
-pieces-hand-over-refuses κs a r e p y h = hands-over-refuses (now (a .0)) (a .1 .0) _ _ _ _ (record { connection = now (e .0); answer = r }) _ _ p y h
+    → (now (e .1 .1 .1 .1 .1 .1 .1 .0) ≡ now (a .1 .1 .1 .1 .1 .1 .1 .0)) × In (numberOf (y .error)) (orKept (toldState (now (a .0) .state)) (expectedNumbers (a .1 .0)))
+pieces-hand-over-refuses κs a r e p y h = hands-over-refuses (now (a .0)) (a .1 .0) _ _ _ _ _ _ (record { connection = now (e .0); answer = r }) _ _ p y h
 
 -- ---- a choice
 

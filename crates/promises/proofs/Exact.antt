@@ -44,7 +44,7 @@ use Rattle.plan.specs.declared.Plan.{Plan}
 use Rattle.messages.specs.Messages.{tooLong, replyChecked, supportLength, supportChecked, allUtf8, requestLength, requestChecked}
 use Rattle.messages.specs.declared.Asked.{Asked}
 use Rattle.listing.specs.Listing.{listing}
-use Rattle.promises.specs.Numbers.{In, All, none, bears, Exactly, ofCount, ofRead, ofSight, ofOutcome, ofAnswer, ofFilling, ofChoice, ofProtocol, ofAppended, recordNumbers, walkNumbers, requestNumbers, stopNumbers, decideNumbers, replyNumbers, fillNumbers, choiceNumbers, protocolNumbers, lengthNumbers, writerNumbers, appendNumbers, planNumbers, replyWriterNumbers, roomNumbers, Read, Decided, Filled, Offered, Cookie, Denied, Reply, Support, Request}
+use Rattle.promises.specs.Numbers.{In, All, none, bears, Exactly, ofCount, ofRead, ofSight, ofOutcome, ofAnswer, ofFilling, ofChoice, ofProtocol, ofAppended, recordNumbers, walkNumbers, requestNumbers, stopNumbers, decideNumbers, replyNumbers, fillNumbers, choiceNumbers, protocolNumbers, lengthNumbers, writerNumbers, appendNumbers, planNumbers, replyWriterNumbers, roomNumbers, Read, ReadReply, Decided, Filled, Offered, Cookie, Denied, Reply, Support, Request}
 use Rattle.promises.proofs.Bearing.{Within, only-of, if-within, answer-only, with-room, room-alone, alike, wider}
 
 all-map : {P Q : ℕ → Type 0} (l : List ℕ) → ((n : ℕ) → P n → Q n) → All P l → All Q l
@@ -202,30 +202,34 @@ decide-exactly = record {
   );
 }
 
-pub reply-exactly : Exactly (λ (x : Read). ofAnswer (replyOf (x .message) (x .limit) (x .room))) replyNumbers
+-- asked by one who offered protocol 0 and algorithm 15, with no room
+abbrev replied : List ℕ → ReadReply
+replied m = record { message = m; limit = 64; terms = replies.offering (0 ∷ []) (15 ∷ []) 0 }
+
+pub reply-exactly : Exactly (λ (x : ReadReply). ofAnswer (replyOf (x .message) (x .limit) (x .terms))) replyNumbers
 unfolding numberAt kindOf criticalOf kind critical size there shapeOf rowOf isUnknown short uneven notNumber faultOf faultIn actIn has meet judge step walk finish readBy known actBy replies.act replies.once replies.decide replyOf
 reply-exactly = record {
-  only = λ x. answer-only replyNumbers (replyOf (x .message) (x .limit) (x .room))
-      (λ r e. reply-numbered (λ n. In n replyNumbers) (refl, refl, refl, refl, refl, refl, refl, refl, refl, refl) (x .message) (x .limit) (x .room) r e .one);
+  only = λ x. answer-only replyNumbers (replyOf (x .message) (x .limit) (x .terms))
+      (λ r e. reply-numbered (λ n. In n replyNumbers) (refl, refl, refl, refl, refl, refl, refl, refl, refl, refl, refl) (x .message) (x .limit) (x .terms) r e .one);
   each = (
-    (asked [], refl),
+    (replied [], refl),
     (
-      (asked odd-error, refl),
+      (replied odd-error, refl),
       (
-        (asked unknown-set, refl),
+        (replied unknown-set, refl),
         (
-          (asked end, refl),
+          (replied end, refl),
           (
-            (asked (0 ∷ 5 ∷ 0 ∷ 0 ∷ lists 15 end), refl),
+            (replied (0 ∷ 5 ∷ 0 ∷ 0 ∷ lists 15 end), refl),
             (
-              (asked (128 ∷ 2 ∷ 0 ∷ 2 ∷ 0 ∷ 1 ∷ []), refl),
+              (replied (128 ∷ 2 ∷ 0 ∷ 2 ∷ 0 ∷ 1 ∷ []), refl),
               (
-                (asked (128 ∷ 3 ∷ 0 ∷ 2 ∷ 0 ∷ 1 ∷ []), refl),
+                (replied (128 ∷ 3 ∷ 0 ∷ 2 ∷ 0 ∷ 1 ∷ []), refl),
                 (
-                  (asked (128 ∷ 1 ∷ 0 ∷ 0 ∷ end), refl),
+                  (replied (128 ∷ 1 ∷ 0 ∷ 0 ∷ end), refl),
                   (
-                    (asked (128 ∷ 1 ∷ 0 ∷ 2 ∷ 0 ∷ 0 ∷ 128 ∷ 4 ∷ 0 ∷ 0 ∷ end), refl),
-                    ((asked (lists 15 end), refl), tt),
+                    (replied (128 ∷ 1 ∷ 0 ∷ 2 ∷ 0 ∷ 0 ∷ 128 ∷ 4 ∷ 0 ∷ 0 ∷ end), refl),
+                    ((replied (lists 15 end), refl), ((replied (lists 17 end), refl), tt)),
                   ),
                 ),
               ),

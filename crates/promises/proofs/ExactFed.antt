@@ -10,8 +10,9 @@ use lib.ListN.{length, take, drop, length-take}
 use Rattle.record.specs.Record.{kindOf, criticalOf, kind, critical, size}
 use Rattle.nts.specs.Refusal.{Refused}
 use Rattle.walk.specs.Judge as judge
-use Rattle.walk.specs.Judge.{readBy}
+use Rattle.walk.specs.Judge.{Terms, roomFor, readBy}
 use Rattle.request.specs.Request as requests
+use Rattle.request.proofs.Order.{room-alone}
 use Rattle.request.proofs.Numbered.{request-numbered}
 use Rattle.reply.specs.Reply as replies
 use Rattle.reply.proofs.Numbered.{reply-numbered}
@@ -21,7 +22,7 @@ use Rattle.feeding.proofs.Refusing.{refused-by}
 use Rattle.feeding.proofs.Answering.{Numbers}
 use Rattle.promises.specs.Pieces.{Made, lacksRoom, undecided, answerOn}
 use Rattle.promises.specs.Numbers as numbers
-use Rattle.promises.specs.Numbers.{In, All, Number, bears, Exactly, ofAnswer, ofFed, requestNumbers, replyNumbers, feedRequestNumbers, feedReplyNumbers, Piecewise, lineOf}
+use Rattle.promises.specs.Numbers.{In, All, Number, bears, Exactly, ofAnswer, ofFed, requestNumbers, replyNumbers, feedRequestNumbers, feedReplyNumbers, ReadReply, Piecewise, lineOf}
 use Rattle.promises.proofs.Exact.{request-exactly, reply-exactly}
 use Rattle.promises.proofs.RefusingFed.{cause-in, request-reads, reply-reads}
 use Rattle.promises.proofs.Waiting.{waits-start}
@@ -32,11 +33,11 @@ use Rattle.promises.proofs.Locals.{request-local, reply-local}
 -- ---- the number that is borne
 
 abbrev pub numberFed : Read → Piecewise → Number
-numberFed X x = ofFed (answerOf X (lineOf x) (x .buffer) (x .brought) (x .room))
+numberFed X x = ofFed (answerOf X (lineOf x) (x .buffer) (x .brought) (x .terms))
 
 -- ---- a whole message in one piece
 
-module _ (X : Read) (L : Local X) (m : List ℕ) (n room : ℕ) where
+module _ (X : Read) (L : Local X) (m : List ℕ) (n : ℕ) (room : Terms) where
   abbrev all : Brought
   all = record { piece = m; closed = true }
 
@@ -46,7 +47,7 @@ module _ (X : Read) (L : Local X) (m : List ℕ) (n room : ℕ) where
     before = started n;
     lent = m;
     brought = all;
-    room = room;
+    terms = room;
     table = [];
     said = saysOf X (held (lineAfter X (started n) m all room) (bufferAfter X (started n) m all)) (answerOf X (started n) m all room);
     after = lineAfter X (started n) m all room;
@@ -55,47 +56,48 @@ module _ (X : Read) (L : Local X) (m : List ℕ) (n room : ℕ) where
   }
 
   abbrev asked : Piecewise
-  asked = record { limit = n; gathered = 0; begins = 0; met = 0; buffer = m; brought = all; room = room }
+  asked = record { limit = n; gathered = 0; begins = 0; met = 0; buffer = m; brought = all; terms = room }
 
-  in-one : answerOf X (started n) m all room ≡ answers (readBy (X .reader) (X .judging) m (record { limit = n; room = room }))
+  in-one : answerOf X (started n) m all room ≡ answers (readBy (X .reader) (X .judging) m (record { limit = n; terms = room }))
   unfolding made answerOn undecided
   in-one =
       answer-of X L n m [] made (record { answer = refl; line = refl; buffer = refl; table = refl }) (waits-start (X .reader) n m)
       ∙ answer-is X L n (length m) m true room
       ∙ rw (lacks-room (X .reader) (stops-in X L) n (length m) m (omega (arith, length-take n m)))
 
-  bears-one : (k : ℕ) → ofAnswer (readBy (X .reader) (X .judging) m (record { limit = n; room = room })) ≡ bears k → numberFed X asked ≡ bears k
+  bears-one : (k : ℕ) → ofAnswer (readBy (X .reader) (X .judging) m (record { limit = n; terms = room })) ≡ bears k → numberFed X asked ≡ bears k
   bears-one k e = ap ofFed in-one ∙ e
 
 -- so each number of the whole-message reader
-each-whole : (X : Read) (L : Local X) (l : List ℕ) → All (λ n. (x : numbers.Read) × (ofAnswer (readBy (X .reader) (X .judging) (x .message) (record { limit = x .limit; room = x .room })) ≡ bears n)) l
+each-whole : (X : Read) (L : Local X) {A : Type 0} (m : A → List ℕ) (limit : A → ℕ) (room : A → Terms) (l : List ℕ)
+    → All (λ n. (x : A) × (ofAnswer (readBy (X .reader) (X .judging) (m x) (record { limit = limit x; terms = room x })) ≡ bears n)) l
     → All (λ n. (x : Piecewise) × (numberFed X x ≡ bears n)) l
-each-whole X L [] h = tt
-each-whole X L (n ∷ l) h =
+each-whole X L m limit room [] h = tt
+each-whole X L m limit room (n ∷ l) h =
     let x = h .0 .0 in
-    ((asked X L (x .message) (x .limit) (x .room), bears-one X L (x .message) (x .limit) (x .room) n (h .0 .1)), each-whole X L l (h .1))
+    ((asked X L (m x) (limit x) (room x), bears-one X L (m x) (limit x) (room x) n (h .0 .1)), each-whole X L m limit room l (h .1))
 
 -- ---- no other
 
 only-fed : (X : Read) (l : List ℕ) → In 9 l → In 16 l → Numbers X (λ n. In n l) → (x : Piecewise) (n : ℕ) → numberFed X x ≡ bears n → In n l
-only-fed X l nine sixteen reads x n e = go (answerOf X (lineOf x) (x .buffer) (x .brought) (x .room)) refl e
+only-fed X l nine sixteen reads x n e = go (answerOf X (lineOf x) (x .buffer) (x .brought) (x .terms)) refl e
   where
     number-one : (i k : ℕ) → bears i ≡ bears k → i ≡ k
     number-one i k q = cc
 
-    go : (a : Fed (X .judging .Q)) → answerOf X (lineOf x) (x .buffer) (x .brought) (x .room) ≡ a → ofFed a ≡ bears n → In n l
+    go : (a : Fed (X .judging .Q)) → answerOf X (lineOf x) (x .buffer) (x .brought) (x .terms) ≡ a → ofFed a ≡ bears n → In n l
     go none p q = let z : _≡_ {A = ℕ} 0 1 = cc in absurd (omega arith)
     go (answers (judge.refused r)) p q =
-        rw (sym (number-one (r .number) n q)) (cause-in X l nine sixteen reads (lineOf x) r (refused-by X (lineOf x) (x .buffer) (x .brought) (x .room) r p))
+        rw (sym (number-one (r .number) n q)) (cause-in X l nine sixteen reads (lineOf x) r (refused-by X (lineOf x) (x .buffer) (x .brought) (x .terms) r p))
     go (answers (judge.accepted y)) p q = let z : _≡_ {A = ℕ} 0 1 = cc in absurd (omega arith)
 
 -- ---- each: one byte counted and no buffer; one byte brought and no buffer
 
 nine-asked : Piecewise
-nine-asked = record { limit = 1; gathered = 1; begins = 0; met = 0; buffer = []; brought = record { piece = []; closed = false }; room = 0 }
+nine-asked = record { limit = 1; gathered = 1; begins = 0; met = 0; buffer = []; brought = record { piece = []; closed = false }; terms = roomFor 0 }
 
 sixteen-asked : Piecewise
-sixteen-asked = record { limit = 1; gathered = 0; begins = 0; met = 0; buffer = []; brought = record { piece = 128 ∷ []; closed = false }; room = 0 }
+sixteen-asked = record { limit = 1; gathered = 0; begins = 0; met = 0; buffer = []; brought = record { piece = 128 ∷ []; closed = false }; terms = roomFor 0 }
 
 pub feed-request-exactly : Exactly (λ (x : Piecewise). numberFed requestRead x) feedRequestNumbers
 unfolding requests.request nine-asked sixteen-asked answerOf firstAnswer broken joined inside fitting full whole going otherwise comes
@@ -105,7 +107,7 @@ feed-request-exactly = record {
     (nine-asked, refl),
     (
       (sixteen-asked, refl),
-      each-whole requestRead request-local requestNumbers (request-exactly .each),
+      each-whole requestRead request-local (λ (x : numbers.Read). x .message) (λ x. x .limit) (λ x. roomFor (x .room)) requestNumbers (request-exactly .each),
     ),
   );
 }
@@ -118,7 +120,7 @@ feed-reply-exactly = record {
     (nine-asked, refl),
     (
       (sixteen-asked, refl),
-      each-whole replyRead reply-local replyNumbers (reply-exactly .each),
+      each-whole replyRead reply-local (λ (x : ReadReply). x .message) (λ x. x .limit) (λ x. x .terms) replyNumbers (reply-exactly .each),
     ),
   );
 }
@@ -133,38 +135,39 @@ module _ (X : Read) (reads : Numbers X (λ n. n ≡ 9 → ⊥)) (x : Piecewise) 
       number-nine : (k : ℕ) → bears k ≡ bears 9 → k ≡ 9
       number-nine k q = cc
 
-      by-answer : (s : List ℕ) (a : judge.Answer (X .judging .Q)) → readBy (X .reader) (X .judging) s (record { limit = x .limit; room = x .room }) ≡ a → ofAnswer a ≡ bears 9 → ⊥
-      by-answer s (judge.refused r) p q = reads s (x .limit) (x .room) r p (number-nine (r .number) q)
+      by-answer : (s : List ℕ) (a : judge.Answer (X .judging .Q)) → readBy (X .reader) (X .judging) s (record { limit = x .limit; terms = x .terms }) ≡ a → ofAnswer a ≡ bears 9 → ⊥
+      by-answer s (judge.refused r) p q = reads s (x .limit) (x .terms) r p (number-nine (r .number) q)
       by-answer s (judge.accepted y) p q = let z : _≡_ {A = ℕ} 0 1 = cc in omega arith
 
-      by-how : (w : How) (s : List ℕ) → ofFed (answerAfter X (x .limit) w s (x .room)) ≡ bears 9 → ⊥
+      by-how : (w : How) (s : List ℕ) → ofFed (answerAfter X (x .limit) w s (x .terms)) ≡ bears 9 → ⊥
       by-how waiting s q = let z : _≡_ {A = ℕ} 0 1 = cc in omega arith
       by-how noRoom s q = let z = number-nine 16 q in omega arith
-      by-how decided s q = by-answer s (readBy (X .reader) (X .judging) s (record { limit = x .limit; room = x .room })) refl q
+      by-how decided s q = by-answer s (readBy (X .reader) (X .judging) s (record { limit = x .limit; terms = x .terms })) refl q
 
       go : (t : Bool) → broken (lineOf x) (x .buffer) ≡ t
-          → ofFed (cond t (refusedAt 9 0) (answerAfter X (x .limit) (comes (X .reader) (lineOf x) (x .buffer) (x .brought) .how) (take (comes (X .reader) (lineOf x) (x .buffer) (x .brought) .gathered) (joined (lineOf x) (x .buffer) (x .brought))) (x .room))) ≡ bears 9
+          → ofFed (cond t (refusedAt 9 0) (answerAfter X (x .limit) (comes (X .reader) (lineOf x) (x .buffer) (x .brought) .how) (take (comes (X .reader) (lineOf x) (x .buffer) (x .brought) .gathered) (joined (lineOf x) (x .buffer) (x .brought))) (x .terms))) ≡ bears 9
           → broken (lineOf x) (x .buffer) ≡ true
       go true p q = p
       go false p q = absurd (by-how (comes (X .reader) (lineOf x) (x .buffer) (x .brought) .how) _ q)
 
-  broken-nine : broken (lineOf x) (x .buffer) ≡ true → answerOf X (lineOf x) (x .buffer) (x .brought) (x .room) ≡ refusedAt 9 0
+  broken-nine : broken (lineOf x) (x .buffer) ≡ true → answerOf X (lineOf x) (x .buffer) (x .brought) (x .terms) ≡ refusedAt 9 0
   unfolding answerOf
   broken-nine p = rw p
 
 abbrev pub NineExactly : Read → Type 0
-NineExactly X = (x : Piecewise) → (numberFed X x ≡ bears 9 → broken (lineOf x) (x .buffer) ≡ true) × (broken (lineOf x) (x .buffer) ≡ true → answerOf X (lineOf x) (x .buffer) (x .brought) (x .room) ≡ refusedAt 9 0)
+NineExactly X = (x : Piecewise) → (numberFed X x ≡ bears 9 → broken (lineOf x) (x .buffer) ≡ true) × (broken (lineOf x) (x .buffer) ≡ true → answerOf X (lineOf x) (x .buffer) (x .brought) (x .terms) ≡ refusedAt 9 0)
 
 pub feed-request-nine : NineExactly requestRead
 unfolding requests.request
 feed-request-nine x =
     let reads : Numbers requestRead (λ n. n ≡ 9 → ⊥) =
-    λ s n room y e. request-numbered (λ k. k ≡ 9 → ⊥) (λ q. omega arith, λ q. omega arith, λ q. omega arith, λ q. omega arith, λ q. omega arith, λ q. omega arith, λ q. omega arith) s n room y e .one in
+    λ s n u y e. request-numbered (λ k. k ≡ 9 → ⊥) (λ q. omega arith, λ q. omega arith, λ q. omega arith, λ q. omega arith, λ q. omega arith, λ q. omega arith, λ q. omega arith) s n (u .room) y
+    (sym (room-alone s (record { limit = n; terms = u })) ∙ e) .one in
     (nine-broken requestRead reads x, broken-nine requestRead reads x)
 
 pub feed-reply-nine : NineExactly replyRead
 unfolding replies.replyOf
 feed-reply-nine x =
     let reads : Numbers replyRead (λ n. n ≡ 9 → ⊥) =
-    λ s n room y e. reply-numbered (λ k. k ≡ 9 → ⊥) (λ q. omega arith, λ q. omega arith, λ q. omega arith, λ q. omega arith, λ q. omega arith, λ q. omega arith, λ q. omega arith, λ q. omega arith, λ q. omega arith, λ q. omega arith) s n room y e .one in
+    λ s n room y e. reply-numbered (λ k. k ≡ 9 → ⊥) (λ q. omega arith, λ q. omega arith, λ q. omega arith, λ q. omega arith, λ q. omega arith, λ q. omega arith, λ q. omega arith, λ q. omega arith, λ q. omega arith, λ q. omega arith, λ q. omega arith) s n room y e .one in
     (nine-broken replyRead reads x, broken-nine replyRead reads x)

@@ -14,7 +14,7 @@ use Rattle.nts.specs.Algorithm.{describe}
 use Rattle.layout.specs.Table.{rowOf, shapeOf, isUnknown}
 use Rattle.record.specs.Record.{kindOf, criticalOf, kind, critical, size, there, short, uneven, notNumber, notHalves, notUtf8, firstOf, notName, faultOf}
 use Rattle.walk.specs.Walk.{Sighting, faultIn, actIn, has, meet, judge, step, walk}
-use Rattle.walk.specs.Judge.{Under, refused, accepted, finish, readBy}
+use Rattle.walk.specs.Judge.{roomFor, Under, refused, accepted, finish, readBy}
 use Rattle.walk.specs.Message.{Whole, Record, End, Each, message, Parts}
 use Rattle.walk.specs.Table.{known, actBy}
 use Rattle.walk.proofs.Demand3.{Showing}
@@ -74,7 +74,7 @@ tail = 1 ∷ 2 ∷ 3 ∷ []
 
 -- under a limit of 100 bytes
 abbrev pub asked : ℕ → Under
-asked room = record { limit = 100; room = room }
+asked room = record { limit = 100; terms = roomFor room }
 
 pub a-record : (c : List ℕ) (k : ℕ) → Whole c → kind c ≡ suc k → Record c
 a-record c k w e = (w, λ z. omega arith)
@@ -158,10 +158,11 @@ exchange-other : exchange ≡ exchange′ → ⊥
 exchange-other e = let z : _≡_ {A = ℕ} 128 0 = cc in omega arith
 
 exchange-is : Parts Record End (message exchange end []) 100
+unfolding request
 exchange-is = request-ordered .accepted-is (message exchange end []) (asked 2) exchange-answer (computed .0)
 
 exchange-reordered : Showing reading shows (message exchange′ end tail) (asked 2) (keyExchange (0 ∷ 0 ∷ []) (0 ∷ 15 ∷ []) ((97 ∷ []) ∷ (98 ∷ []) ∷ []))
-unfolding numberAt kindOf kind size there
+unfolding request numberAt kindOf kind size there
 exchange-reordered = request-ordered .reordered (asked 2) exchange exchange′ end [] tail exchange-answer exchange-records the-end exchange-order refl refl (computed .0)
 
 twice-records : Each Record twice
@@ -172,18 +173,18 @@ twice-other : twice ≡ twice′ → ⊥
 twice-other e = let z : _≡_ {A = ℕ} 0 128 = cc in omega arith
 
 twice-reordered : Showing reading shows (message twice′ end tail) (asked 2) (keyExchange (0 ∷ 0 ∷ []) (0 ∷ 15 ∷ []) ((97 ∷ []) ∷ (97 ∷ []) ∷ []))
-unfolding numberAt kindOf kind size there
+unfolding request numberAt kindOf kind size there
 twice-reordered = request-ordered .reordered (asked 2) twice twice′ end [] tail twice-answer twice-records the-end twice-order refl refl (computed .3)
 
 -- the unknown record stands just before the algorithms
 exchange-inserted : Showing reading shows (message (protocols ∷ name-a ∷ unknown ∷ algorithms ∷ name-b ∷ []) end tail) (asked 2) (keyExchange (0 ∷ 0 ∷ []) (0 ∷ 15 ∷ []) ((97 ∷ []) ∷ (98 ∷ []) ∷ []))
-unfolding numberAt kindOf criticalOf kind critical size known isUnknown shapeOf rowOf
+unfolding request numberAt kindOf criticalOf kind critical size known isUnknown shapeOf rowOf
 exchange-inserted =
     request-ordered .inserted (asked 2) (protocols ∷ name-a ∷ []) (algorithms ∷ name-b ∷ []) unknown end [] tail exchange-answer exchange-records the-end refl refl refl (omega arith)
     (computed .0)
 
 exchange-refused : request (message (protocols ∷ name-a ∷ unknown-set ∷ algorithms ∷ name-b ∷ []) end tail) 100 2 ≡ refused (record { number = 3; beside = nothing; place = 11 })
-unfolding numberAt kindOf criticalOf kind critical size known isUnknown shapeOf rowOf
+unfolding request numberAt kindOf criticalOf kind critical size known isUnknown shapeOf rowOf
 exchange-refused =
     request-ordered .inserted-critical (asked 2) (protocols ∷ name-a ∷ []) (algorithms ∷ name-b ∷ []) unknown-set end [] tail exchange-answer exchange-records the-end refl refl refl (omega arith)
     (computed .0)
@@ -198,19 +199,20 @@ fixed-other : fixed ≡ fixed′ → ⊥
 fixed-other e = let z : _≡_ {A = ℕ} 128 0 = cc in omega arith
 
 fixed-is : Parts Record End (message fixed end []) 100
+unfolding request
 fixed-is = request-ordered .accepted-is (message fixed end []) (asked 0) fixed-answer (computed .1)
 
 fixed-reordered : Showing reading shows (message fixed′ end tail) (asked 0) (fixedKey (107 ∷ []) two-keys (0 ∷ 15 ∷ []) (0 ∷ 0 ∷ []) true)
-unfolding numberAt kindOf kind size there
+unfolding request numberAt kindOf kind size there
 fixed-reordered = request-ordered .reordered (asked 0) fixed fixed′ end [] tail fixed-answer fixed-records the-end fixed-order refl refl (computed .1)
 
 -- just before the end record
 fixed-inserted : Showing reading shows (message (keys ∷ authentication ∷ protocols ∷ algorithms ∷ keep-alive ∷ unknown ∷ []) end tail) (asked 0) (fixedKey (107 ∷ []) two-keys (0 ∷ 15 ∷ []) (0 ∷ 0 ∷ []) true)
-unfolding numberAt kindOf criticalOf kind critical size known isUnknown shapeOf rowOf
+unfolding request numberAt kindOf criticalOf kind critical size known isUnknown shapeOf rowOf
 fixed-inserted = request-ordered .inserted (asked 0) fixed [] unknown end [] tail fixed-answer fixed-records the-end refl refl refl (omega arith) (computed .1)
 
 fixed-refused : request (message (keys ∷ authentication ∷ protocols ∷ algorithms ∷ keep-alive ∷ unknown-set ∷ []) end tail) 100 0 ≡ refused (record { number = 3; beside = nothing; place = 89 })
-unfolding numberAt kindOf criticalOf kind critical size known isUnknown shapeOf rowOf
+unfolding request numberAt kindOf criticalOf kind critical size known isUnknown shapeOf rowOf
 fixed-refused = request-ordered .inserted-critical (asked 0) fixed [] unknown-set end [] tail fixed-answer fixed-records the-end refl refl refl (omega arith) (computed .1)
 
 -- ---- what is supported
@@ -223,17 +225,18 @@ lists-other : lists ≡ lists′ → ⊥
 lists-other e = let z : _≡_ {A = ℕ} 0 128 = cc in omega arith
 
 lists-is : Parts Record End (message lists end []) 100
+unfolding request
 lists-is = request-ordered .accepted-is (message lists end []) (asked 0) lists-answer (computed .2)
 
 lists-reordered : Showing reading shows (message lists′ end tail) (asked 0) (support (107 ∷ []) true false true)
-unfolding numberAt kindOf kind size there
+unfolding request numberAt kindOf kind size there
 lists-reordered = request-ordered .reordered (asked 0) lists lists′ end [] tail lists-answer lists-records the-end lists-order refl refl (computed .2)
 
 -- as the first record
 lists-inserted : Showing reading shows (message (unknown ∷ authentication ∷ wanted-protocols ∷ keep-alive ∷ []) end tail) (asked 0) (support (107 ∷ []) true false true)
-unfolding numberAt kindOf criticalOf kind critical size known isUnknown shapeOf rowOf
+unfolding request numberAt kindOf criticalOf kind critical size known isUnknown shapeOf rowOf
 lists-inserted = request-ordered .inserted (asked 0) [] lists unknown end [] tail lists-answer lists-records the-end refl refl refl (omega arith) (computed .2)
 
 lists-refused : request (message (unknown-set ∷ authentication ∷ wanted-protocols ∷ keep-alive ∷ []) end tail) 100 0 ≡ refused (record { number = 3; beside = nothing; place = 0 })
-unfolding numberAt kindOf criticalOf kind critical size known isUnknown shapeOf rowOf
+unfolding request numberAt kindOf criticalOf kind critical size known isUnknown shapeOf rowOf
 lists-refused = request-ordered .inserted-critical (asked 0) [] lists unknown-set end [] tail lists-answer lists-records the-end refl refl refl (omega arith) (computed .2)

@@ -9,11 +9,11 @@ use lib.ListN.{length, take, drop}
 use Rattle.wire.specs.Bytes.{numberAt}
 use Rattle.wire.specs.Over.{over}
 use Rattle.utf8.specs.Utf8.{wellFormed, octets, rows, fits, charSize, tail}
-use Rattle.nts.specs.Refusal.{Beside, nothing, code}
+use Rattle.nts.specs.Refusal.{Beside, nothing, code, protocol, algorithm}
 use Rattle.layout.specs.Table.{shapeOf, rowOf, isUnknown}
 use Rattle.record.specs.Record.{kindOf, criticalOf, kind, critical, size, there, short, uneven, notNumber, notHalves, notUtf8, firstOf, notName, faultOf}
 use Rattle.walk.specs.Walk.{faultIn, actIn, has, meet, judge, step, walk}
-use Rattle.walk.specs.Judge.{finish, readBy}
+use Rattle.walk.specs.Judge.{Terms, roomFor, finish, readBy}
 use Rattle.walk.specs.Table.{known, actBy}
 use Rattle.walk.specs.Shown.{slotOf}
 use Rattle.walk.specs.Met.{isMet, withMet, metBelow, passing}
@@ -42,7 +42,7 @@ abbrev blank : ℕ → List ℕ
 blank zero = []
 blank (suc k) = 165 ∷ blank k
 
-module _ (X : Read) (room : ℕ) where
+module _ (X : Read) (room : Terms) where
   abbrev onward : Line → List ℕ → Says (X .Told) → List Brought → Fed (X .Told)
   onward c b s [] = record { said = s; gathered = c .gathered; buffer = b }
   onward c b s (h ∷ hs) =
@@ -68,7 +68,7 @@ abbrev refusal : ℕ → ℕ → Says requests.Told
 refusal n place = says (requests.refusedWith (record { number = n; beside = nothing; place = place }))
 
 abbrev ask : ℕ → ℕ → List Brought → Fed requests.Told
-ask n size hs = fed requestRead 4 n size hs
+ask n size hs = fed requestRead (roomFor 4) n size hs
 
 -- M with two denied names, of which the table holds one
 abbrev two-names : List ℕ
@@ -111,8 +111,8 @@ Rows =
     -- a second list of protocols, in another piece than the first
     × (ask 65535 20 (piece (take 6 M) ∷ piece (take 5 M) ∷ piece (drop 5 M) ∷ []) ≡ holds (refusal 4 6) (take 6 M ++ take 6 M) 8)
     -- two denied names and room for one
-    × (fed requestRead 1 65535 30 (piece two-names ∷ piece [] ∷ []) ≡ holds (refusal 7 22) two-names 4)
-    × (fed requestRead 2 65535 30 (bytewise two-names) ≡ holds (says (requests.keyExchangeIs (record { start = 4; len = 2 }) (record { start = 10; len = 2 }) 2)) two-names 4)
+    × (fed requestRead (roomFor 1) 65535 30 (piece two-names ∷ piece [] ∷ []) ≡ holds (refusal 7 22) two-names 4)
+    × (fed requestRead (roomFor 2) 65535 30 (bytewise two-names) ≡ holds (says (requests.keyExchangeIs (record { start = 4; len = 2 }) (record { start = 10; len = 2 }) 2)) two-names 4)
 
 pub request-rows : Rows
 unfolding numberAt tail rows fits charSize octets wellFormed kindOf criticalOf kind critical size there shapeOf rowOf isUnknown short uneven notNumber notHalves notUtf8 firstOf notName faultOf faultIn actIn has meet judge step walk finish readBy known actBy requests.act requests.once requests.decide over isMet withMet metBelow passing slotOf whole going broken joined inside fitting full otherwise comes firstAnswer again answerOf isPending lineAfter bufferAfter
@@ -131,7 +131,7 @@ abbrev declined : ℕ → Beside → ℕ → Says replies.Told
 declined n x place = says (replies.refusedWith (record { number = n; beside = x; place = place }))
 
 abbrev hear : ℕ → ℕ → ℕ → List Brought → Fed replies.Told
-hear room n size hs = fed replyRead room n size hs
+hear room n size hs = fed replyRead (replies.offering (0 ∷ []) (15 ∷ []) room) n size hs
 
 abbrev ReplyRows : Type 0
 ReplyRows =
@@ -143,18 +143,41 @@ ReplyRows =
     -- an error record, once it is whole
     × (hear 1 65535 24 (piece (128 ∷ 2 ∷ 0 ∷ 2 ∷ 0 ∷ []) ∷ []) ≡ holds nothingYet (128 ∷ 2 ∷ 0 ∷ 2 ∷ 0 ∷ []) 19)
     × (hear 1 65535 24 (piece (128 ∷ 2 ∷ 0 ∷ 2 ∷ 0 ∷ []) ∷ piece (1 ∷ 128 ∷ []) ∷ []) ≡ holds (declined 11 (code 1) 0) (128 ∷ 2 ∷ 0 ∷ 2 ∷ 0 ∷ 1 ∷ []) 18)
+    -- what it names must be offered: the protocol first, and after that the algorithm, by the end record
+    × (fed replyRead (replies.offering (1 ∷ []) (16 ∷ []) 1) 65535 24 (bytewise N) ≡ holds (declined 17 (protocol 0) 17) N 3)
+    × (fed replyRead (replies.offering (0 ∷ []) (16 ∷ []) 1) 65535 24 (piece N ∷ close ∷ []) ≡ holds (declined 17 (algorithm 15) 17) N 3)
+    × (fed replyRead (replies.offering (0 ∷ []) [] 1) 65535 24 (piece N ∷ []) ≡ holds (declined 17 (algorithm 15) 17) N 3)
     -- a buffer of 20
     × (hear 1 65535 20 (piece (take 9 N) ∷ piece (drop 9 N) ∷ close ∷ []) ≡ holds (declined 16 nothing 20) (take 20 N) 0)
 
 pub reply-rows : ReplyRows
 unfolding numberAt tail rows fits charSize octets wellFormed kindOf criticalOf kind critical size there shapeOf rowOf isUnknown short uneven notNumber notHalves notUtf8 firstOf notName faultOf faultIn actIn has meet judge step walk finish readBy known actBy replies.act replies.once replies.decide over isMet withMet metBelow passing slotOf whole going broken joined inside fitting full otherwise comes firstAnswer again answerOf isPending lineAfter bufferAfter
-reply-rows = (refl, refl, refl, refl, refl, refl, refl)
+reply-rows = (refl, refl, refl, refl, refl, refl, refl, refl, refl, refl)
+
+-- once it is accepted, or refused with 17, it is given again whatever lists are lent then
+abbrev answered : Line
+answered = lineAfter replyRead (started 65535) (blank 24) (piece N) (replies.offering (0 ∷ []) (15 ∷ []) 1)
+
+abbrev answered-left : List ℕ
+answered-left = bufferAfter replyRead (started 65535) (blank 24) (piece N)
+
+abbrev unasked : Line
+unasked = lineAfter replyRead (started 65535) (blank 24) (piece N) (replies.offering (0 ∷ []) (16 ∷ []) 1)
+
+abbrev AgainRows : Type 0
+AgainRows =
+    (saysOf replyRead (held answered answered-left) (answerOf replyRead answered answered-left close (replies.offering [] [] 0)) ≡ N-is)
+    × (saysOf replyRead (held unasked answered-left) (answerOf replyRead unasked answered-left close (replies.offering (0 ∷ []) (15 ∷ []) 1)) ≡ declined 17 (algorithm 15) 17)
+
+pub again-rows : AgainRows
+unfolding numberAt tail rows fits charSize octets wellFormed kindOf criticalOf kind critical size there shapeOf rowOf isUnknown short uneven notNumber notHalves notUtf8 firstOf notName faultOf faultIn actIn has meet judge step walk finish readBy known actBy replies.act replies.once replies.decide over isMet withMet metBelow passing slotOf whole going broken joined inside fitting full otherwise comes firstAnswer again answerOf isPending lineAfter bufferAfter
+again-rows = (refl, refl)
 
 -- ---- what is lent may be another table each time, and a connection may be made by hand
 
 -- M with two denied names and a table of two cells, then an empty piece with eight: 7 again, and no cell changed
 abbrev seven : Line
-seven = lineAfter requestRead (started 65535) (blank 30) (piece two-names) 1
+seven = lineAfter requestRead (started 65535) (blank 30) (piece two-names) (roomFor 1)
 
 abbrev seven-left : List ℕ
 seven-left = bufferAfter requestRead (started 65535) (blank 30) (piece two-names)
@@ -168,16 +191,16 @@ nine = refusal 9 0
 
 abbrev LentRows : Type 0
 LentRows =
-    (saysOf requestRead (held seven seven-left) (answerOf requestRead seven seven-left (piece []) 4) ≡ refusal 7 22)
-    × (lineAfter requestRead seven seven-left (piece []) 4 ≡ seven)
-    × (tableAfter requestRead seven seven-left (piece []) 4 (blank 8) ≡ blank 8)
+    (saysOf requestRead (held seven seven-left) (answerOf requestRead seven seven-left (piece []) (roomFor 4)) ≡ refusal 7 22)
+    × (lineAfter requestRead seven seven-left (piece []) (roomFor 4) ≡ seven)
+    × (tableAfter requestRead seven seven-left (piece []) (roomFor 4) (blank 8) ≡ blank 8)
     -- 9, with nothing changed, also where the line closed
-    × (saysOf requestRead [] (answerOf requestRead (counts 65535 5) (blank 4) (piece M) 4) ≡ nine)
-    × (saysOf requestRead [] (answerOf requestRead (counts 4 5) (blank 8) close 4) ≡ nine)
-    × (lineAfter requestRead (counts 65535 5) (blank 4) (piece M) 4 ≡ counts 65535 5)
+    × (saysOf requestRead [] (answerOf requestRead (counts 65535 5) (blank 4) (piece M) (roomFor 4)) ≡ nine)
+    × (saysOf requestRead [] (answerOf requestRead (counts 4 5) (blank 8) close (roomFor 4)) ≡ nine)
+    × (lineAfter requestRead (counts 65535 5) (blank 4) (piece M) (roomFor 4) ≡ counts 65535 5)
     × (bufferAfter requestRead (counts 4 5) (blank 8) (piece M) ≡ blank 8)
     -- a connection that says it holds more than the record that decides: the bytes behind that record no longer count
-    × (lineAfter requestRead (counts 65535 6) (128 ∷ 0 ∷ 0 ∷ 0 ∷ 7 ∷ 7 ∷ []) (piece []) 4 .gathered ≡ 4)
+    × (lineAfter requestRead (counts 65535 6) (128 ∷ 0 ∷ 0 ∷ 0 ∷ 7 ∷ 7 ∷ []) (piece []) (roomFor 4) .gathered ≡ 4)
 
 pub lent-rows : LentRows
 unfolding numberAt tail rows fits charSize octets wellFormed kindOf criticalOf kind critical size there shapeOf rowOf isUnknown short uneven notNumber notHalves notUtf8 firstOf notName faultOf faultIn actIn has meet judge step walk finish readBy known actBy requests.act requests.once requests.decide over isMet withMet metBelow passing slotOf whole going broken joined inside fitting full otherwise comes firstAnswer again answerOf isPending lineAfter bufferAfter tableAfter

@@ -12,13 +12,13 @@ use Rattle.nts.specs.Refusal.{nothing}
 use Rattle.layout.specs.Table.{rowOf, shapeOf, isUnknown}
 use Rattle.record.specs.Record.{kindOf, criticalOf, kind, critical, size, there, short, uneven, notNumber, notHalves, notUtf8, firstOf, notName, faultOf}
 use Rattle.walk.specs.Walk.{Sighting, faultIn, actIn, has, meet, judge, step, walk}
-use Rattle.walk.specs.Judge.{refused, accepted, finish, readBy}
+use Rattle.walk.specs.Judge.{Under, refused, accepted, finish, readBy}
 use Rattle.walk.specs.Message.{Record, End, Each, message, Parts}
 use Rattle.walk.specs.Table.{known, actBy}
 use Rattle.walk.proofs.Demand3.{Showing}
-use Rattle.reply.specs.Reply.{act, once, sent, Form, reply, decide, replyOf}
+use Rattle.reply.specs.Reply.{act, once, sent, Form, reply, decide, replyOf, offering}
 use Rattle.reply.proofs.Order.{shows, reading, reply-ordered}
-use Rattle.promises.proofs.Examples.{end, protocols, algorithms, keep-alive, unknown, unknown-set, tail, a-record, the-end, sighting, asked}
+use Rattle.promises.proofs.Examples.{end, protocols, algorithms, keep-alive, unknown, unknown-set, tail, a-record, the-end, sighting}
 
 -- ---- records
 
@@ -51,7 +51,10 @@ full-order =
 full-other : full ≡ full′ → ⊥
 full-other e = let z : _≡_ {A = ℕ} 1 4 = cc in omega arith
 
--- ---- it is accepted
+-- ---- it is accepted, by one who offered protocol 0 and algorithm 15
+
+abbrev heard : ℕ → Under
+heard room = record { limit = 100; terms = offering (0 ∷ []) (15 ∷ []) room }
 
 abbrev answer : Form Sighting
 answer = reply (sighting 1 4 2) (sighting 4 10 2) (sent (sighting 6 16 1)) (sent (sighting 7 21 2)) true (sighting 5 31 1 ∷ sighting 5 36 1 ∷ [])
@@ -59,7 +62,7 @@ answer = reply (sighting 1 4 2) (sighting 4 10 2) (sent (sighting 6 16 1)) (sent
 abbrev bodies : Form (List ℕ)
 bodies = reply (0 ∷ 0 ∷ []) (0 ∷ 15 ∷ []) (sent (97 ∷ [])) (sent (0 ∷ 123 ∷ [])) true ((1 ∷ []) ∷ (2 ∷ []) ∷ [])
 
-computed : replyOf (message full end []) 100 2 ≡ accepted answer
+computed : replyOf (message full end []) 100 (offering (0 ∷ []) (15 ∷ []) 2) ≡ accepted answer
 unfolding numberAt utf8.tail utf8.rows utf8.fits utf8.charSize utf8.octets utf8.wellFormed kindOf criticalOf kind critical size there shapeOf short uneven notNumber notHalves notUtf8 firstOf notName faultOf faultIn actIn has meet judge step walk finish readBy known isUnknown rowOf actBy act once decide replyOf
 computed = refl
 
@@ -71,21 +74,21 @@ full-records =
     (a-record protocols 0 refl refl, (a-record algorithms 3 refl refl, (a-record server 5 refl refl, (a-record port 6 refl refl, (a-record keep-alive 7 refl refl, (a-record cookie-1 4 refl refl, (a-record cookie-2 4 refl refl, tt)))))))
 
 full-is : Parts Record End (message full end []) 100
-full-is = reply-ordered .accepted-is (message full end []) (asked 2) answer computed
+full-is = reply-ordered .accepted-is (message full end []) (heard 2) answer computed
 
-full-reordered : Showing reading shows (message full′ end tail) (asked 2) bodies
+full-reordered : Showing reading shows (message full′ end tail) (heard 2) bodies
 unfolding numberAt kindOf kind size there
-full-reordered = reply-ordered .reordered (asked 2) full full′ end [] tail answer full-records the-end full-order refl refl computed
+full-reordered = reply-ordered .reordered (heard 2) full full′ end [] tail answer full-records the-end full-order refl refl computed
 
 -- the unknown record stands just before the server
-full-inserted : Showing reading shows (message (protocols ∷ algorithms ∷ unknown ∷ server ∷ port ∷ keep-alive ∷ cookie-1 ∷ cookie-2 ∷ []) end tail) (asked 2) bodies
+full-inserted : Showing reading shows (message (protocols ∷ algorithms ∷ unknown ∷ server ∷ port ∷ keep-alive ∷ cookie-1 ∷ cookie-2 ∷ []) end tail) (heard 2) bodies
 unfolding numberAt kindOf criticalOf kind critical size known isUnknown shapeOf rowOf
 full-inserted =
-    reply-ordered .inserted (asked 2) (protocols ∷ algorithms ∷ []) (server ∷ port ∷ keep-alive ∷ cookie-1 ∷ cookie-2 ∷ []) unknown end [] tail answer full-records the-end refl refl refl (omega arith)
+    reply-ordered .inserted (heard 2) (protocols ∷ algorithms ∷ []) (server ∷ port ∷ keep-alive ∷ cookie-1 ∷ cookie-2 ∷ []) unknown end [] tail answer full-records the-end refl refl refl (omega arith)
     computed
 
-full-refused : replyOf (message (protocols ∷ algorithms ∷ unknown-set ∷ server ∷ port ∷ keep-alive ∷ cookie-1 ∷ cookie-2 ∷ []) end tail) 100 2 ≡ refused (record { number = 3; beside = nothing; place = 12 })
+full-refused : replyOf (message (protocols ∷ algorithms ∷ unknown-set ∷ server ∷ port ∷ keep-alive ∷ cookie-1 ∷ cookie-2 ∷ []) end tail) 100 (offering (0 ∷ []) (15 ∷ []) 2) ≡ refused (record { number = 3; beside = nothing; place = 12 })
 unfolding numberAt kindOf criticalOf kind critical size known isUnknown shapeOf rowOf
 full-refused =
-    reply-ordered .inserted-critical (asked 2) (protocols ∷ algorithms ∷ []) (server ∷ port ∷ keep-alive ∷ cookie-1 ∷ cookie-2 ∷ []) unknown-set end [] tail answer full-records the-end refl refl refl (omega arith)
+    reply-ordered .inserted-critical (heard 2) (protocols ∷ algorithms ∷ []) (server ∷ port ∷ keep-alive ∷ cookie-1 ∷ cookie-2 ∷ []) unknown-set end [] tail answer full-records the-end refl refl refl (omega arith)
     computed

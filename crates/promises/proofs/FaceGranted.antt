@@ -21,6 +21,8 @@ use Rattle.plan.specs.declared.Port.the-variants as ports
 use Rattle.plan.specs.declared.NameLength.the-variants as names
 use Rattle.messages.specs.Messages.{messageOf, bodiesOf, noProtocolRecords, noAlgorithmRecords, errorRecords, supportRecords, requestRecords, requestChecked}
 use Rattle.listing.specs.Listing.{listing}
+use Rattle.walk.specs.Judge.{Terms, roomFor}
+use Rattle.reply.specs.Reply.{offering}
 use Rattle.cells.specs.Cells.{Given, cells, cell}
 use Rattle.cells.proofs.Lent.{gives-granted, counted-granted, writes-granted}
 use Rattle.places.specs.Places.{roomOf}
@@ -29,7 +31,7 @@ use Rattle.pieces.specs.Pieces.{Brought, Read, nothingYet, says}
 use Rattle.pieces.specs.Reads.{requestRead, replyRead}
 use Rattle.reading.specs.Read.{requestGiven, replyGiven, recordGiven}
 use Rattle.feeding.specs.Fed.{isConnection, lineIn, saysIn}
-use Rattle.feeding.proofs.Answering.{host-request, host-reply, request-sixteenth, reply-sixteenth, fed-granted, fed-waits}
+use Rattle.feeding.proofs.Answering.{host-request, host-reply, request-seventeenth, reply-seventeenth, fed-granted, fed-waits}
 use Rattle.promises.proofs.Closing.{closed-says}
 use Rattle.handing.specs.Handed.{choiceGiven, protocolGiven, keyGiven}
 use Rattle.planning.specs.Planned.{planIn, changed, grownGiven, appended, plannedLength, plannedReply, plannedBytes}
@@ -82,12 +84,12 @@ abbrev pub Written : Count → List ℕ → List ℕ → List ℕ → List ℕ �
 Written a b o o′ after = (n : ℕ) × (a ≡ bytes n) × (o′ ≡ over b o) × (after ≡ n ∷ [])
 
 -- .. and of a read that is fed in pieces: the cells c hold a connection whose read is accepted, and f gives these for what is told of it
-abbrev pub FedAccepted : (X : Read) → (X .Told → Given) → List ℕ → List ℕ → Brought → List ℕ → List ℕ → Type 0
-FedAccepted X f c b h t after = (isConnection c ≡ true) × (x : X .Told) × (saysIn X (lineIn c) b h (roomOf t) ≡ says x) × (f x ≡ cells after)
+abbrev pub FedAccepted : (X : Read) → (X .Told → Given) → List ℕ → List ℕ → Brought → Terms → List ℕ → Type 0
+FedAccepted X f c b h u after = (isConnection c ≡ true) × (x : X .Told) × (saysIn X (lineIn c) b h u ≡ says x) × (f x ≡ cells after)
 
 -- 65,535: its read waits
-abbrev pub FedWaits : Read → List ℕ → List ℕ → Brought → List ℕ → Type 0
-FedWaits X c b h t = (isConnection c ≡ true) × (saysIn X (lineIn c) b h (roomOf t) ≡ nothingYet)
+abbrev pub FedWaits : Read → List ℕ → List ℕ → Brought → Terms → Type 0
+FedWaits X c b h u = (isConnection c ≡ true) × (saysIn X (lineIn c) b h u ≡ nothingYet)
 
 -- ---- one record; a choice, and the length of a key
 
@@ -116,34 +118,34 @@ decide-request-granted κs a r e p z = gives-granted (p .gives) (sure-of (decide
 -- ---- a read that is fed in pieces
 
 pub feed-request-granted : (κs : _) (a : _) (r : _) (e : _) → feed-request.Learnt κs a r e → r ≡ 0
-    → FedAccepted requestRead requestGiven (now (a .0)) (now (a .1 .1 .0)) (record { piece = now (a .1 .0); closed = false }) (now (a .1 .1 .1 .0)) (now (e .1 .1 .1 .1 .0))
-feed-request-granted κs a r e p z = fed-granted host-request request-sixteenth p z
+    → FedAccepted requestRead requestGiven (now (a .0)) (now (a .1 .1 .0)) (record { piece = now (a .1 .0); closed = false }) (roomFor (roomOf (now (a .1 .1 .1 .0)))) (now (e .1 .1 .1 .1 .0))
+feed-request-granted κs a r e p z = fed-granted host-request request-seventeenth p z
 
 pub feed-request-waits : (κs : _) (a : _) (r : _) (e : _) → feed-request.Learnt κs a r e → r ≡ 65535
-    → FedWaits requestRead (now (a .0)) (now (a .1 .1 .0)) (record { piece = now (a .1 .0); closed = false }) (now (a .1 .1 .1 .0))
-feed-request-waits κs a r e p z = fed-waits host-request request-sixteenth p z
+    → FedWaits requestRead (now (a .0)) (now (a .1 .1 .0)) (record { piece = now (a .1 .0); closed = false }) (roomFor (roomOf (now (a .1 .1 .1 .0))))
+feed-request-waits κs a r e p z = fed-waits host-request request-seventeenth p z
 
 pub close-request-granted : (κs : _) (a : _) (r : _) (e : _) → close-request.Learnt κs a r e → r ≡ 0
-    → FedAccepted requestRead requestGiven (now (a .0)) (now (a .1 .0)) (record { piece = []; closed = true }) (now (a .1 .1 .0)) (now (e .1 .1 .1 .0))
-close-request-granted κs a r e p z = fed-granted host-request request-sixteenth p z
+    → FedAccepted requestRead requestGiven (now (a .0)) (now (a .1 .0)) (record { piece = []; closed = true }) (roomFor (roomOf (now (a .1 .1 .0)))) (now (e .1 .1 .1 .0))
+close-request-granted κs a r e p z = fed-granted host-request request-seventeenth p z
 
 pub close-request-decides : (κs : _) (a : _) (r : _) (e : _) → close-request.Learnt κs a r e → r ≡ 65535 → ⊥
-close-request-decides κs a r e p z = closed-says requestRead (lineIn (now (a .0))) (now (a .1 .0)) (record { piece = []; closed = true }) refl _ (roomOf (now (a .1 .1 .0))) (fed-waits host-request request-sixteenth p z .1)
+close-request-decides κs a r e p z = closed-says requestRead (lineIn (now (a .0))) (now (a .1 .0)) (record { piece = []; closed = true }) refl _ (roomFor (roomOf (now (a .1 .1 .0)))) (fed-waits host-request request-seventeenth p z .1)
 
 pub feed-reply-granted : (κs : _) (a : _) (r : _) (e : _) → feed-reply.Learnt κs a r e → r ≡ 0
-    → FedAccepted replyRead replyGiven (now (a .0)) (now (a .1 .1 .0)) (record { piece = now (a .1 .0); closed = false }) (now (a .1 .1 .1 .0)) (now (e .1 .1 .1 .1 .0))
-feed-reply-granted κs a r e p z = fed-granted host-reply reply-sixteenth p z
+    → FedAccepted replyRead replyGiven (now (a .0)) (now (a .1 .1 .1 .1 .0)) (record { piece = now (a .1 .0); closed = false }) (offering (now (a .1 .1 .0)) (now (a .1 .1 .1 .0)) (roomOf (now (a .1 .1 .1 .1 .1 .0)))) (now (e .1 .1 .1 .1 .1 .1 .0))
+feed-reply-granted κs a r e p z = fed-granted host-reply reply-seventeenth p z
 
 pub feed-reply-waits : (κs : _) (a : _) (r : _) (e : _) → feed-reply.Learnt κs a r e → r ≡ 65535
-    → FedWaits replyRead (now (a .0)) (now (a .1 .1 .0)) (record { piece = now (a .1 .0); closed = false }) (now (a .1 .1 .1 .0))
-feed-reply-waits κs a r e p z = fed-waits host-reply reply-sixteenth p z
+    → FedWaits replyRead (now (a .0)) (now (a .1 .1 .1 .1 .0)) (record { piece = now (a .1 .0); closed = false }) (offering (now (a .1 .1 .0)) (now (a .1 .1 .1 .0)) (roomOf (now (a .1 .1 .1 .1 .1 .0))))
+feed-reply-waits κs a r e p z = fed-waits host-reply reply-seventeenth p z
 
 pub close-reply-granted : (κs : _) (a : _) (r : _) (e : _) → close-reply.Learnt κs a r e → r ≡ 0
-    → FedAccepted replyRead replyGiven (now (a .0)) (now (a .1 .0)) (record { piece = []; closed = true }) (now (a .1 .1 .0)) (now (e .1 .1 .1 .0))
-close-reply-granted κs a r e p z = fed-granted host-reply reply-sixteenth p z
+    → FedAccepted replyRead replyGiven (now (a .0)) (now (a .1 .1 .1 .0)) (record { piece = []; closed = true }) (offering (now (a .1 .0)) (now (a .1 .1 .0)) (roomOf (now (a .1 .1 .1 .1 .0)))) (now (e .1 .1 .1 .1 .1 .0))
+close-reply-granted κs a r e p z = fed-granted host-reply reply-seventeenth p z
 
 pub close-reply-decides : (κs : _) (a : _) (r : _) (e : _) → close-reply.Learnt κs a r e → r ≡ 65535 → ⊥
-close-reply-decides κs a r e p z = closed-says replyRead (lineIn (now (a .0))) (now (a .1 .0)) (record { piece = []; closed = true }) refl _ (roomOf (now (a .1 .1 .0))) (fed-waits host-reply reply-sixteenth p z .1)
+close-reply-decides κs a r e p z = closed-says replyRead (lineIn (now (a .0))) (now (a .1 .1 .1 .0)) (record { piece = []; closed = true }) refl _ (offering (now (a .1 .0)) (now (a .1 .1 .0)) (roomOf (now (a .1 .1 .1 .1 .0)))) (fed-waits host-reply reply-seventeenth p z .1)
 
 -- ---- a plan, its length and its reply
 

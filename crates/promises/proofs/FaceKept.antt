@@ -1,6 +1,6 @@
 -- Demand 1 for every call that a host links and that has memory lent to it for writing: "A refusal bears its number from document 01 and changes no lent table or
 -- buffer." Each call returns one word. The first theorems say what that word is of the readers of whole messages; those that follow say of each call, over its own
--- contract, that a word which is not 0 leaves all that was lent as it was, and that its number, the word's remainder by 65,536, is one of the call's set
+-- contract, that a word which is not 0 leaves all that was lent as it was, and that its number, the word's remainder by 256, is one of the call's set
 -- (specs/Numbers.antt). Seven calls refuse nothing. Of the calls that feed a read in pieces a word that is neither 0 nor 65,535 refuses: neither it nor 65,535, which waits,
 -- changes the table or the answer's cells; connection and buffer may change (02, order 1), and what changes nothing of them is said, too. That each number of a set is told:
 -- Exact.antt, ExactFace.antt, and of a read in pieces, over the definition, ExactFed.antt. What a word that is 0 says: FaceGranted.antt.
@@ -14,7 +14,7 @@ use lib.ListN.{length, getD}
 use denote.Ref.{now}
 use Rattle.wire.specs.Over.{over}
 use Rattle.wire.proofs.Over.{over-none}
-use Rattle.nts.specs.Refusal.{code, Refused}
+use Rattle.nts.specs.Refusal.{code, besideNumber, Refused}
 use Rattle.nts.specs.Algorithm.{Described, known, unknown, describe}
 use Rattle.walk.specs.Walk.{Sighting}
 use Rattle.walk.specs.Judge.{refused, accepted}
@@ -23,11 +23,11 @@ use Rattle.places.specs.Places.{cells, roomOf}
 use Rattle.request.specs.Request as requests
 use Rattle.request.specs.Request.{request}
 use Rattle.reply.specs.Reply as replies
-use Rattle.reply.specs.Reply.{replyOf}
+use Rattle.reply.specs.Reply.{replyOf, offering}
 use Rattle.plan.specs.Plan as plans
 use Rattle.plan.specs.declared.Port.the-variants as ports
 use Rattle.plan.specs.declared.NameLength.the-variants as names
-use Rattle.cells.specs.Cells.{besideNumber, word, unplaced, refuses, cell}
+use Rattle.cells.specs.Cells.{sortOf, word, unplaced, refuses, cell}
 use Rattle.cells.proofs.Lent.{gives-refused, gives-kept, apart}
 use Rattle.handing.specs.Handed.{keyGiven}
 use Rattle.reading.specs.Read.{ReadsRequest, ReadsReply}
@@ -100,26 +100,26 @@ module _ (m : List ℕ) (n : ℕ) (table lent : List ℕ) (r : ℕ) (table′ af
 
   -- .. and which it tells whole: the number, the number beside it, and the place. A message is bytes
   pub request-told : (y : Refused) → request m n (roomOf table) ≡ refused y → ((i : ℕ) → getD m i 0 < 256)
-      → (r % 65536 ≡ y .number) × (r / 65536 % 65536 ≡ besideNumber (y .beside)) × (r / 4294967296 ≡ y .place)
+      → (r % 256 ≡ y .number) × (r / 256 % 256 ≡ sortOf (y .beside)) × (r / 65536 % 65536 ≡ besideNumber (y .beside)) × (r / 4294967296 ≡ y .place)
   request-told = told-apart hosted-request c
 
 -- ntske_read_reply in the same way
-module _ (m : List ℕ) (n : ℕ) (table lent : List ℕ) (r : ℕ) (table′ after : List ℕ) (c : ReadsReply m n table lent r table′ after) where
-  pub reply-word : r ≡ 0 → (q : replies.Form Sighting) × (replyOf m n (roomOf table) ≡ accepted q)
-  reply-word = granted hosted-reply c
+module _ (m : List ℕ) (n : ℕ) (ps qs table lent : List ℕ) (r : ℕ) (table′ after : List ℕ) (c : ReadsReply m n ps qs table lent r table′ after) where
+  pub reply-word : r ≡ 0 → (q : replies.Form Sighting) × (replyOf m n (offering ps qs (roomOf table)) ≡ accepted q)
+  reply-word = granted hosted-reply {e = (ps, qs)} c
 
-  pub reply-bears : (r ≡ 0 → ⊥) → (y : Refused) × (replyOf m n (roomOf table) ≡ refused y) × (r ≡ word y) × In (y .number) replyNumbers
+  pub reply-bears : (r ≡ 0 → ⊥) → (y : Refused) × (replyOf m n (offering ps qs (roomOf table)) ≡ refused y) × (r ≡ word y) × In (y .number) replyNumbers
   reply-bears h =
-      let y = bears hosted-reply c h in
-      (y .0, y .1, y .2, reply-exactly .only (record { message = m; limit = n; room = roomOf table }) (y .0 .number) (ap ofAnswer (y .1)))
+      let y = bears hosted-reply {e = (ps, qs)} c h in
+      (y .0, y .1, y .2, reply-exactly .only (record { message = m; limit = n; terms = offering ps qs (roomOf table) }) (y .0 .number) (ap ofAnswer (y .1)))
 
-  pub reply-told : (y : Refused) → replyOf m n (roomOf table) ≡ refused y → ((i : ℕ) → getD m i 0 < 256)
-      → (r % 65536 ≡ y .number) × (r / 65536 % 65536 ≡ besideNumber (y .beside)) × (r / 4294967296 ≡ y .place)
-  reply-told = told-apart hosted-reply c
+  pub reply-told : (y : Refused) → replyOf m n (offering ps qs (roomOf table)) ≡ refused y → ((i : ℕ) → getD m i 0 < 256)
+      → (r % 256 ≡ y .number) × (r / 256 % 256 ≡ sortOf (y .beside)) × (r / 65536 % 65536 ≡ besideNumber (y .beside)) × (r / 4294967296 ≡ y .place)
+  reply-told = told-apart hosted-reply {e = (ps, qs)} c
 
 -- ntske_key_length, where it refuses: 5, the algorithm's number beside it, which has sixteen bits, and no place
 pub key-length-told : (κs : _) (a : _) (r : _) (e : _) → key-length.Learnt κs a r e → a .0 < 65536 → (r ≡ 0 → ⊥)
-    → (r % 65536 ≡ 5) × (r / 65536 % 65536 ≡ a .0) × (r / 4294967296 ≡ 0)
+    → (r % 256 ≡ 5) × (r / 256 % 256 ≡ 0) × (r / 65536 % 65536 ≡ a .0) × (r / 4294967296 ≡ 0)
 key-length-told κs a r e p small h =
     let y = gives-refused p h in
     rw (y .2, go (a .0) (y .0) (describe (a .0)) (y .1)) (apart (unplaced 5 (code (a .0))) (omega arith) small)
@@ -130,13 +130,15 @@ key-length-told κs a r e p small h =
 
 -- ---- the calls of `reading`: the table of names or cookies, and the cells
 
-pub ntske-read-request-refuses : (κs : _) (a : _) (r : _) (e : _) → read-request.Learnt κs a r e → (r ≡ 0 → ⊥) → (now (e .1 .1 .0) ≡ now (a .1 .1 .0)) × (now (e .1 .1 .1 .0) ≡ now (a .1 .1 .1 .0)) × In (r % 65536) requestNumbers
+pub ntske-read-request-refuses : (κs : _) (a : _) (r : _) (e : _) → read-request.Learnt κs a r e → (r ≡ 0 → ⊥) → (now (e .1 .1 .0) ≡ now (a .1 .1 .0)) × (now (e .1 .1 .1 .0) ≡ now (a .1 .1 .1 .0)) × In (r % 256) requestNumbers
 ntske-read-request-refuses κs a r e p h = let k = kept hosted-request p h in (k .0, k .1, number-of (request-tells (now (a .0)) (a .1 .0) (roomOf (now (a .1 .1 .0)))) (p .gives) h)
 
-pub ntske-read-reply-refuses : (κs : _) (a : _) (r : _) (e : _) → read-reply.Learnt κs a r e → (r ≡ 0 → ⊥) → (now (e .1 .1 .0) ≡ now (a .1 .1 .0)) × (now (e .1 .1 .1 .0) ≡ now (a .1 .1 .1 .0)) × In (r % 65536) replyNumbers
-ntske-read-reply-refuses κs a r e p h = let k = kept hosted-reply p h in (k .0, k .1, number-of (reply-tells (now (a .0)) (a .1 .0) (roomOf (now (a .1 .1 .0)))) (p .gives) h)
+pub ntske-read-reply-refuses : (κs : _) (a : _) (r : _) (e : _) → read-reply.Learnt κs a r e → (r ≡ 0 → ⊥) → (now (e .1 .1 .1 .1 .0) ≡ now (a .1 .1 .1 .1 .0)) × (now (e .1 .1 .1 .1 .1 .0) ≡ now (a .1 .1 .1 .1 .1 .0)) × In (r % 256) replyNumbers
+ntske-read-reply-refuses κs a r e p h =
+    let k = kept hosted-reply {e = (now (a .1 .1 .0), now (a .1 .1 .1 .0))} p h in
+    (k .0, k .1, number-of (reply-tells (now (a .0)) (a .1 .0) (offering (now (a .1 .1 .0)) (now (a .1 .1 .1 .0)) (roomOf (now (a .1 .1 .1 .1 .0))))) (p .gives) h)
 
-pub ntske-read-record-refuses : (κs : _) (a : _) (r : _) (e : _) → read-record.Learnt κs a r e → (r ≡ 0 → ⊥) → (now (e .1 .1 .0) ≡ now (a .1 .1 .0)) × In (r % 65536) recordNumbers
+pub ntske-read-record-refuses : (κs : _) (a : _) (r : _) (e : _) → read-record.Learnt κs a r e → (r ≡ 0 → ⊥) → (now (e .1 .1 .0) ≡ now (a .1 .1 .0)) × In (r % 256) recordNumbers
 ntske-read-record-refuses κs a r e p h = given-refuses (record-tells (now (a .0)) (a .1 .0)) p h
 
 -- ---- of `deciding`: the table of names, and the answer's cells
@@ -144,7 +146,7 @@ ntske-read-record-refuses κs a r e p h = given-refuses (record-tells (now (a .0
 pub ntske-walk-request-refuses-nothing : (κs : _) (a : _) (r : _) (e : _) → walk-request.Learnt κs a r e → r ≡ 0
 ntske-walk-request-refuses-nothing κs a r e p = p .says
 
-pub ntske-decide-request-refuses : (κs : _) (a : _) (r : _) (e : _) → decide-request.Learnt κs a r e → (r ≡ 0 → ⊥) → (now (e .1 .1 .0) ≡ now (a .1 .1 .0)) × (now (e .1 .1 .1 .0) ≡ now (a .1 .1 .1 .0)) × In (r % 65536) decideNumbers
+pub ntske-decide-request-refuses : (κs : _) (a : _) (r : _) (e : _) → decide-request.Learnt κs a r e → (r ≡ 0 → ⊥) → (now (e .1 .1 .0) ≡ now (a .1 .1 .0)) × (now (e .1 .1 .1 .0) ≡ now (a .1 .1 .1 .0)) × In (r % 256) decideNumbers
 unfolding requests.tableAfter
 ntske-decide-request-refuses κs a r e p h =
     let y = gives-refused (p .gives) h in
@@ -159,16 +161,16 @@ ntske-decide-request-refuses κs a r e p h =
 pub ntske-connection-new-refuses-nothing : (κs : _) (a : _) (r : _) (e : _) → connection-new.Learnt κs a r e → r ≡ 0
 ntske-connection-new-refuses-nothing κs a r e p = p .says
 
-pub ntske-feed-request-refuses : (κs : _) (a : _) (r : _) (e : _) → feed-request.Learnt κs a r e → (r ≡ 0 → ⊥) → (now (e .1 .1 .1 .0) ≡ now (a .1 .1 .1 .0)) × (now (e .1 .1 .1 .1 .0) ≡ now (a .1 .1 .1 .1 .0)) × ((r ≡ 65535 → ⊥) → In (r % 65536) (orHeld (now (a .0)) feedRequestNumbers))
+pub ntske-feed-request-refuses : (κs : _) (a : _) (r : _) (e : _) → feed-request.Learnt κs a r e → (r ≡ 0 → ⊥) → (now (e .1 .1 .1 .0) ≡ now (a .1 .1 .1 .0)) × (now (e .1 .1 .1 .1 .0) ≡ now (a .1 .1 .1 .1 .0)) × ((r ≡ 65535 → ⊥) → In (r % 256) (orHeld (now (a .0)) feedRequestNumbers))
 ntske-feed-request-refuses κs a r e p h = fed-request-refuses p h
 
-pub ntske-close-request-refuses : (κs : _) (a : _) (r : _) (e : _) → close-request.Learnt κs a r e → (r ≡ 0 → ⊥) → (now (e .1 .1 .0) ≡ now (a .1 .1 .0)) × (now (e .1 .1 .1 .0) ≡ now (a .1 .1 .1 .0)) × ((r ≡ 65535 → ⊥) → In (r % 65536) (orHeld (now (a .0)) feedRequestNumbers))
+pub ntske-close-request-refuses : (κs : _) (a : _) (r : _) (e : _) → close-request.Learnt κs a r e → (r ≡ 0 → ⊥) → (now (e .1 .1 .0) ≡ now (a .1 .1 .0)) × (now (e .1 .1 .1 .0) ≡ now (a .1 .1 .1 .0)) × ((r ≡ 65535 → ⊥) → In (r % 256) (orHeld (now (a .0)) feedRequestNumbers))
 ntske-close-request-refuses κs a r e p h = fed-request-refuses p h
 
-pub ntske-feed-reply-refuses : (κs : _) (a : _) (r : _) (e : _) → feed-reply.Learnt κs a r e → (r ≡ 0 → ⊥) → (now (e .1 .1 .1 .0) ≡ now (a .1 .1 .1 .0)) × (now (e .1 .1 .1 .1 .0) ≡ now (a .1 .1 .1 .1 .0)) × ((r ≡ 65535 → ⊥) → In (r % 65536) (orHeld (now (a .0)) feedReplyNumbers))
+pub ntske-feed-reply-refuses : (κs : _) (a : _) (r : _) (e : _) → feed-reply.Learnt κs a r e → (r ≡ 0 → ⊥) → (now (e .1 .1 .1 .1 .1 .0) ≡ now (a .1 .1 .1 .1 .1 .0)) × (now (e .1 .1 .1 .1 .1 .1 .0) ≡ now (a .1 .1 .1 .1 .1 .1 .0)) × ((r ≡ 65535 → ⊥) → In (r % 256) (orHeld (now (a .0)) feedReplyNumbers))
 ntske-feed-reply-refuses κs a r e p h = fed-reply-refuses p h
 
-pub ntske-close-reply-refuses : (κs : _) (a : _) (r : _) (e : _) → close-reply.Learnt κs a r e → (r ≡ 0 → ⊥) → (now (e .1 .1 .0) ≡ now (a .1 .1 .0)) × (now (e .1 .1 .1 .0) ≡ now (a .1 .1 .1 .0)) × ((r ≡ 65535 → ⊥) → In (r % 65536) (orHeld (now (a .0)) feedReplyNumbers))
+pub ntske-close-reply-refuses : (κs : _) (a : _) (r : _) (e : _) → close-reply.Learnt κs a r e → (r ≡ 0 → ⊥) → (now (e .1 .1 .1 .1 .0) ≡ now (a .1 .1 .1 .1 .0)) × (now (e .1 .1 .1 .1 .1 .0) ≡ now (a .1 .1 .1 .1 .1 .0)) × ((r ≡ 65535 → ⊥) → In (r % 256) (orHeld (now (a .0)) feedReplyNumbers))
 ntske-close-reply-refuses κs a r e p h = fed-reply-refuses p h
 
 -- 9, and an answer that is there, change nothing: connection, buffer and table stay, and of an answer given again the answer's cells alone are put. Eight cells is what the
@@ -182,12 +184,12 @@ pub ntske-close-request-again : (κs : _) (a : _) (r : _) (e : _) → close-requ
     → (now (e .0) ≡ now (a .0)) × (now (e .1 .0) ≡ now (a .1 .0)) × (now (e .1 .1 .0) ≡ now (a .1 .1 .0))
 ntske-close-request-again κs a r e p l q = fed-again p l q
 
-pub ntske-feed-reply-again : (κs : _) (a : _) (r : _) (e : _) → feed-reply.Learnt κs a r e → length (now (a .0)) ≡ 8 → isPending (lineIn (now (a .0))) (now (a .1 .1 .0)) ≡ false
-    → (now (e .0) ≡ now (a .0)) × (now (e .1 .1 .0) ≡ now (a .1 .1 .0)) × (now (e .1 .1 .1 .0) ≡ now (a .1 .1 .1 .0))
+pub ntske-feed-reply-again : (κs : _) (a : _) (r : _) (e : _) → feed-reply.Learnt κs a r e → length (now (a .0)) ≡ 8 → isPending (lineIn (now (a .0))) (now (a .1 .1 .1 .1 .0)) ≡ false
+    → (now (e .0) ≡ now (a .0)) × (now (e .1 .1 .1 .1 .0) ≡ now (a .1 .1 .1 .1 .0)) × (now (e .1 .1 .1 .1 .1 .0) ≡ now (a .1 .1 .1 .1 .1 .0))
 ntske-feed-reply-again κs a r e p l q = fed-again p l q
 
-pub ntske-close-reply-again : (κs : _) (a : _) (r : _) (e : _) → close-reply.Learnt κs a r e → length (now (a .0)) ≡ 8 → isPending (lineIn (now (a .0))) (now (a .1 .0)) ≡ false
-    → (now (e .0) ≡ now (a .0)) × (now (e .1 .0) ≡ now (a .1 .0)) × (now (e .1 .1 .0) ≡ now (a .1 .1 .0))
+pub ntske-close-reply-again : (κs : _) (a : _) (r : _) (e : _) → close-reply.Learnt κs a r e → length (now (a .0)) ≡ 8 → isPending (lineIn (now (a .0))) (now (a .1 .1 .1 .0)) ≡ false
+    → (now (e .0) ≡ now (a .0)) × (now (e .1 .1 .1 .0) ≡ now (a .1 .1 .1 .0)) × (now (e .1 .1 .1 .1 .0) ≡ now (a .1 .1 .1 .1 .0))
 ntske-close-reply-again κs a r e p l q = fed-again p l q
 
 -- ---- of `handing`: the cells
@@ -204,13 +206,13 @@ ntske-number-refuses-nothing κs a r e p = p .says
 pub ntske-pair-refuses-nothing : (κs : _) (a : _) (r : _) (e : _) → pair.Learnt κs a r e → r ≡ 0
 ntske-pair-refuses-nothing κs a r e p = p .says
 
-pub ntske-choose-refuses : (κs : _) (a : _) (r : _) (e : _) → choose.Learnt κs a r e → (r ≡ 0 → ⊥) → (now (e .1 .1 .1 .1 .0) ≡ now (a .1 .1 .1 .1 .0)) × In (r % 65536) choiceNumbers
+pub ntske-choose-refuses : (κs : _) (a : _) (r : _) (e : _) → choose.Learnt κs a r e → (r ≡ 0 → ⊥) → (now (e .1 .1 .1 .1 .0) ≡ now (a .1 .1 .1 .1 .0)) × In (r % 256) choiceNumbers
 ntske-choose-refuses κs a r e p h = given-refuses (choice-tells (now (a .0)) (now (a .1 .0)) (now (a .1 .1 .0)) (now (a .1 .1 .1 .0))) p h
 
-pub ntske-choose-protocol-refuses : (κs : _) (a : _) (r : _) (e : _) → choose-protocol.Learnt κs a r e → (r ≡ 0 → ⊥) → (now (e .1 .1 .0) ≡ now (a .1 .1 .0)) × In (r % 65536) protocolNumbers
+pub ntske-choose-protocol-refuses : (κs : _) (a : _) (r : _) (e : _) → choose-protocol.Learnt κs a r e → (r ≡ 0 → ⊥) → (now (e .1 .1 .0) ≡ now (a .1 .1 .0)) × In (r % 256) protocolNumbers
 ntske-choose-protocol-refuses κs a r e p h = given-refuses (protocol-tells (now (a .0)) (now (a .1 .0))) p h
 
-pub ntske-key-length-refuses : (κs : _) (a : _) (r : _) (e : _) → key-length.Learnt κs a r e → (r ≡ 0 → ⊥) → (now (e .1 .0) ≡ now (a .1 .0)) × In (r % 65536) keyNumbers
+pub ntske-key-length-refuses : (κs : _) (a : _) (r : _) (e : _) → key-length.Learnt κs a r e → (r ≡ 0 → ⊥) → (now (e .1 .0) ≡ now (a .1 .0)) × In (r % 256) keyNumbers
 ntske-key-length-refuses κs a r e p h = given-refuses (key-tells (a .0)) p h
 
 -- ---- of `planning`: the plan's cells; of an append, these and the tray; of a length, its cell; of a writer, the output and the cell of its count
@@ -218,66 +220,66 @@ ntske-key-length-refuses κs a r e p h = given-refuses (key-tells (a .0)) p h
 pub ntske-plan-new-refuses-nothing : (κs : _) (a : _) (r : _) (e : _) → plan-new.Learnt κs a r e → r ≡ 0
 ntske-plan-new-refuses-nothing κs a r e p = p .says
 
-pub ntske-plan-set-port-refuses : (κs : _) (a : _) (r : _) (e : _) → plan-set-port.Learnt κs a r e → (r ≡ 0 → ⊥) → (now (e .0) ≡ now (a .0)) × In (r % 65536) planNumbers
+pub ntske-plan-set-port-refuses : (κs : _) (a : _) (r : _) (e : _) → plan-set-port.Learnt κs a r e → (r ≡ 0 → ⊥) → (now (e .0) ≡ now (a .0)) × In (r % 256) planNumbers
 ntske-plan-set-port-refuses κs a r e p h = given-refuses (change-tells (λ x. plans.withPort x (ports.Number (a .1 .0))) (now (a .0))) p h
 
-pub ntske-plan-clear-port-refuses : (κs : _) (a : _) (r : _) (e : _) → plan-clear-port.Learnt κs a r e → (r ≡ 0 → ⊥) → (now (e .0) ≡ now (a .0)) × In (r % 65536) planNumbers
+pub ntske-plan-clear-port-refuses : (κs : _) (a : _) (r : _) (e : _) → plan-clear-port.Learnt κs a r e → (r ≡ 0 → ⊥) → (now (e .0) ≡ now (a .0)) × In (r % 256) planNumbers
 ntske-plan-clear-port-refuses κs a r e p h = given-refuses (change-tells (λ x. plans.withPort x ports.None) (now (a .0))) p h
 
-pub ntske-plan-set-name-length-refuses : (κs : _) (a : _) (r : _) (e : _) → plan-set-name-length.Learnt κs a r e → (r ≡ 0 → ⊥) → (now (e .0) ≡ now (a .0)) × In (r % 65536) planNumbers
+pub ntske-plan-set-name-length-refuses : (κs : _) (a : _) (r : _) (e : _) → plan-set-name-length.Learnt κs a r e → (r ≡ 0 → ⊥) → (now (e .0) ≡ now (a .0)) × In (r % 256) planNumbers
 ntske-plan-set-name-length-refuses κs a r e p h = given-refuses (change-tells (λ x. plans.withName x (names.Bytes (a .1 .0))) (now (a .0))) p h
 
-pub ntske-plan-clear-name-length-refuses : (κs : _) (a : _) (r : _) (e : _) → plan-clear-name-length.Learnt κs a r e → (r ≡ 0 → ⊥) → (now (e .0) ≡ now (a .0)) × In (r % 65536) planNumbers
+pub ntske-plan-clear-name-length-refuses : (κs : _) (a : _) (r : _) (e : _) → plan-clear-name-length.Learnt κs a r e → (r ≡ 0 → ⊥) → (now (e .0) ≡ now (a .0)) × In (r % 256) planNumbers
 ntske-plan-clear-name-length-refuses κs a r e p h = given-refuses (change-tells (λ x. plans.withName x names.None) (now (a .0))) p h
 
-pub ntske-plan-set-keep-alive-refuses : (κs : _) (a : _) (r : _) (e : _) → plan-set-keep-alive.Learnt κs a r e → (r ≡ 0 → ⊥) → (now (e .0) ≡ now (a .0)) × In (r % 65536) planNumbers
+pub ntske-plan-set-keep-alive-refuses : (κs : _) (a : _) (r : _) (e : _) → plan-set-keep-alive.Learnt κs a r e → (r ≡ 0 → ⊥) → (now (e .0) ≡ now (a .0)) × In (r % 256) planNumbers
 ntske-plan-set-keep-alive-refuses κs a r e p h = given-refuses (change-tells (λ x. plans.withKeepAlive x true) (now (a .0))) p h
 
-pub ntske-plan-clear-keep-alive-refuses : (κs : _) (a : _) (r : _) (e : _) → plan-clear-keep-alive.Learnt κs a r e → (r ≡ 0 → ⊥) → (now (e .0) ≡ now (a .0)) × In (r % 65536) planNumbers
+pub ntske-plan-clear-keep-alive-refuses : (κs : _) (a : _) (r : _) (e : _) → plan-clear-keep-alive.Learnt κs a r e → (r ≡ 0 → ⊥) → (now (e .0) ≡ now (a .0)) × In (r % 256) planNumbers
 ntske-plan-clear-keep-alive-refuses κs a r e p h = given-refuses (change-tells (λ x. plans.withKeepAlive x false) (now (a .0))) p h
 
-pub ntske-plan-append-refuses : (κs : _) (a : _) (r : _) (e : _) → plan-append.Learnt κs a r e → (r ≡ 0 → ⊥) → (now (e .0) ≡ now (a .0)) × (now (e .1 .1 .0) ≡ now (a .1 .1 .0)) × In (r % 65536) appendNumbers
+pub ntske-plan-append-refuses : (κs : _) (a : _) (r : _) (e : _) → plan-append.Learnt κs a r e → (r ≡ 0 → ⊥) → (now (e .0) ≡ now (a .0)) × (now (e .1 .1 .0) ≡ now (a .1 .1 .0)) × In (r % 256) appendNumbers
 ntske-plan-append-refuses κs a r e p h = let k = appends-kept p h in (k .0, k .1, number-of (append-tells (now (a .0)) (now (a .1 .0)) (now (a .1 .1 .0))) (p .gives) h)
 
-pub ntske-plan-length-refuses : (κs : _) (a : _) (r : _) (e : _) → plan-length.Learnt κs a r e → (r ≡ 0 → ⊥) → (now (e .1 .1 .0) ≡ now (a .1 .1 .0)) × In (r % 65536) planNumbers
+pub ntske-plan-length-refuses : (κs : _) (a : _) (r : _) (e : _) → plan-length.Learnt κs a r e → (r ≡ 0 → ⊥) → (now (e .1 .1 .0) ≡ now (a .1 .1 .0)) × In (r % 256) planNumbers
 ntske-plan-length-refuses κs a r e p h = given-refuses (plan-length-tells (now (a .0)) (now (a .1 .0))) p h
 
-pub ntske-write-reply-refuses : (κs : _) (a : _) (r : _) (e : _) → write-reply.Learnt κs a r e → (r ≡ 0 → ⊥) → (now (e .1 .1 .1 .0) ≡ now (a .1 .1 .1 .0)) × (now (e .1 .1 .1 .1 .0) ≡ now (a .1 .1 .1 .1 .0)) × In (r % 65536) replyWriterNumbers
+pub ntske-write-reply-refuses : (κs : _) (a : _) (r : _) (e : _) → write-reply.Learnt κs a r e → (r ≡ 0 → ⊥) → (now (e .1 .1 .1 .0) ≡ now (a .1 .1 .1 .0)) × (now (e .1 .1 .1 .1 .0) ≡ now (a .1 .1 .1 .1 .0)) × In (r % 256) replyWriterNumbers
 ntske-write-reply-refuses κs a r e p h = writes-refuses (write-reply-tells (now (a .0)) (now (a .1 .0)) (now (a .1 .1 .0)) (length (now (a .1 .1 .1 .0)))) p h
 
 -- ---- of `writing`: the output and the cell of its count; of a length, its cell; of an append, the cell of the used length and the tray
 
-pub ntske-write-no-protocol-refuses : (κs : _) (a : _) (r : _) (e : _) → write-no-protocol.Learnt κs a r e → (r ≡ 0 → ⊥) → (now (e .0) ≡ now (a .0)) × (now (e .1 .0) ≡ now (a .1 .0)) × In (r % 65536) roomNumbers
+pub ntske-write-no-protocol-refuses : (κs : _) (a : _) (r : _) (e : _) → write-no-protocol.Learnt κs a r e → (r ≡ 0 → ⊥) → (now (e .0) ≡ now (a .0)) × (now (e .1 .0) ≡ now (a .1 .0)) × In (r % 256) roomNumbers
 ntske-write-no-protocol-refuses κs a r e p h = writes-refuses (fixed-tells 8 (omega arith) (length (now (a .0)))) p h
 
-pub ntske-write-no-algorithm-refuses : (κs : _) (a : _) (r : _) (e : _) → write-no-algorithm.Learnt κs a r e → (r ≡ 0 → ⊥) → (now (e .1 .0) ≡ now (a .1 .0)) × (now (e .1 .1 .0) ≡ now (a .1 .1 .0)) × In (r % 65536) roomNumbers
+pub ntske-write-no-algorithm-refuses : (κs : _) (a : _) (r : _) (e : _) → write-no-algorithm.Learnt κs a r e → (r ≡ 0 → ⊥) → (now (e .1 .0) ≡ now (a .1 .0)) × (now (e .1 .1 .0) ≡ now (a .1 .1 .0)) × In (r % 256) roomNumbers
 ntske-write-no-algorithm-refuses κs a r e p h = writes-refuses (fixed-tells 14 (omega arith) (length (now (a .1 .0)))) p h
 
-pub ntske-write-error-refuses : (κs : _) (a : _) (r : _) (e : _) → write-error.Learnt κs a r e → (r ≡ 0 → ⊥) → (now (e .1 .0) ≡ now (a .1 .0)) × (now (e .1 .1 .0) ≡ now (a .1 .1 .0)) × In (r % 65536) roomNumbers
+pub ntske-write-error-refuses : (κs : _) (a : _) (r : _) (e : _) → write-error.Learnt κs a r e → (r ≡ 0 → ⊥) → (now (e .1 .0) ≡ now (a .1 .0)) × (now (e .1 .1 .0) ≡ now (a .1 .1 .0)) × In (r % 256) roomNumbers
 ntske-write-error-refuses κs a r e p h = writes-refuses (fixed-tells 10 (omega arith) (length (now (a .1 .0)))) p h
 
-pub ntske-write-support-reply-refuses : (κs : _) (a : _) (r : _) (e : _) → write-support-reply.Learnt κs a r e → (r ≡ 0 → ⊥) → (now (e .1 .1 .1 .0) ≡ now (a .1 .1 .1 .0)) × (now (e .1 .1 .1 .1 .0) ≡ now (a .1 .1 .1 .1 .0)) × In (r % 65536) writerNumbers
+pub ntske-write-support-reply-refuses : (κs : _) (a : _) (r : _) (e : _) → write-support-reply.Learnt κs a r e → (r ≡ 0 → ⊥) → (now (e .1 .1 .1 .0) ≡ now (a .1 .1 .1 .0)) × (now (e .1 .1 .1 .1 .0) ≡ now (a .1 .1 .1 .1 .0)) × In (r % 256) writerNumbers
 ntske-write-support-reply-refuses κs a r e p h = writes-refuses (write-support-tells (a .0) (now (a .1 .0)) (now (a .1 .1 .0)) (length (now (a .1 .1 .1 .0)))) p h
 
-pub ntske-support-reply-length-refuses : (κs : _) (a : _) (r : _) (e : _) → support-reply-length.Learnt κs a r e → (r ≡ 0 → ⊥) → (now (e .1 .1 .1 .0) ≡ now (a .1 .1 .1 .0)) × In (r % 65536) lengthNumbers
+pub ntske-support-reply-length-refuses : (κs : _) (a : _) (r : _) (e : _) → support-reply-length.Learnt κs a r e → (r ≡ 0 → ⊥) → (now (e .1 .1 .1 .0) ≡ now (a .1 .1 .1 .0)) × In (r % 256) lengthNumbers
 ntske-support-reply-length-refuses κs a r e p h = given-refuses (support-length-tells (a .0) (now (a .1 .0)) (now (a .1 .1 .0))) p h
 
-pub ntske-write-request-refuses : (κs : _) (a : _) (r : _) (e : _) → write-request.Learnt κs a r e → (r ≡ 0 → ⊥) → (now (e .1 .1 .1 .1 .0) ≡ now (a .1 .1 .1 .1 .0)) × (now (e .1 .1 .1 .1 .1 .0) ≡ now (a .1 .1 .1 .1 .1 .0)) × In (r % 65536) writerNumbers
+pub ntske-write-request-refuses : (κs : _) (a : _) (r : _) (e : _) → write-request.Learnt κs a r e → (r ≡ 0 → ⊥) → (now (e .1 .1 .1 .1 .0) ≡ now (a .1 .1 .1 .1 .0)) × (now (e .1 .1 .1 .1 .1 .0) ≡ now (a .1 .1 .1 .1 .1 .0)) × In (r % 256) writerNumbers
 ntske-write-request-refuses κs a r e p h = writes-refuses (write-request-tells (now (a .0)) (now (a .1 .0)) (now (a .1 .1 .0)) (a .1 .1 .1 .0) (length (now (a .1 .1 .1 .1 .0)))) p h
 
-pub ntske-request-length-refuses : (κs : _) (a : _) (r : _) (e : _) → request-length.Learnt κs a r e → (r ≡ 0 → ⊥) → (now (e .1 .1 .1 .1 .0) ≡ now (a .1 .1 .1 .1 .0)) × In (r % 65536) lengthNumbers
+pub ntske-request-length-refuses : (κs : _) (a : _) (r : _) (e : _) → request-length.Learnt κs a r e → (r ≡ 0 → ⊥) → (now (e .1 .1 .1 .1 .0) ≡ now (a .1 .1 .1 .1 .0)) × In (r % 256) lengthNumbers
 ntske-request-length-refuses κs a r e p h = given-refuses (request-length-tells (now (a .0)) (now (a .1 .0)) (now (a .1 .1 .0)) (a .1 .1 .1 .0)) p h
 
-pub ntske-append-denied-refuses : (κs : _) (a : _) (r : _) (e : _) → append-denied.Learnt κs a r e → (r ≡ 0 → ⊥) → (now (e .1 .1 .0) ≡ now (a .1 .1 .0)) × (now (e .1 .0) ≡ now (a .1 .0)) × In (r % 65536) writerNumbers
+pub ntske-append-denied-refuses : (κs : _) (a : _) (r : _) (e : _) → append-denied.Learnt κs a r e → (r ≡ 0 → ⊥) → (now (e .1 .1 .0) ≡ now (a .1 .1 .0)) × (now (e .1 .0) ≡ now (a .1 .0)) × In (r % 256) writerNumbers
 ntske-append-denied-refuses κs a r e p h = let k = denies-kept p h in (k .0, k .1, number-of (deny-tells (cell (now (a .1 .1 .0)) 0) (now (a .0)) (now (a .1 .0))) (p .gives) h)
 
-pub ntske-write-record-refuses : (κs : _) (a : _) (r : _) (e : _) → write-record.Learnt κs a r e → (r ≡ 0 → ⊥) → (now (e .1 .1 .0) ≡ now (a .1 .1 .0)) × (now (e .1 .1 .1 .0) ≡ now (a .1 .1 .1 .0)) × In (r % 65536) writerNumbers
+pub ntske-write-record-refuses : (κs : _) (a : _) (r : _) (e : _) → write-record.Learnt κs a r e → (r ≡ 0 → ⊥) → (now (e .1 .1 .0) ≡ now (a .1 .1 .0)) × (now (e .1 .1 .1 .0) ≡ now (a .1 .1 .1 .0)) × In (r % 256) writerNumbers
 ntske-write-record-refuses κs a r e p h = writes-refuses (write-record-tells (now (a .0)) (now (a .1 .0)) (length (now (a .1 .1 .0)))) p h
 
-pub ntske-record-length-refuses : (κs : _) (a : _) (r : _) (e : _) → record-length.Learnt κs a r e → (r ≡ 0 → ⊥) → (now (e .1 .1 .0) ≡ now (a .1 .1 .0)) × In (r % 65536) lengthNumbers
+pub ntske-record-length-refuses : (κs : _) (a : _) (r : _) (e : _) → record-length.Learnt κs a r e → (r ≡ 0 → ⊥) → (now (e .1 .1 .0) ≡ now (a .1 .1 .0)) × In (r % 256) lengthNumbers
 ntske-record-length-refuses κs a r e p h = given-refuses (record-length-tells (now (a .0)) (now (a .1 .0))) p h
 
 -- ---- of `showing`: the output and the cell of its count
 
-pub ntske-list-refuses : (κs : _) (a : _) (r : _) (e : _) → list.Learnt κs a r e → (r ≡ 0 → ⊥) → (now (e .1 .1 .1 .0) ≡ now (a .1 .1 .1 .0)) × (now (e .1 .1 .1 .1 .0) ≡ now (a .1 .1 .1 .1 .0)) × In (r % 65536) roomNumbers
+pub ntske-list-refuses : (κs : _) (a : _) (r : _) (e : _) → list.Learnt κs a r e → (r ≡ 0 → ⊥) → (now (e .1 .1 .1 .0) ≡ now (a .1 .1 .1 .0)) × (now (e .1 .1 .1 .1 .0) ≡ now (a .1 .1 .1 .1 .0)) × In (r % 256) roomNumbers
 ntske-list-refuses κs a r e p h = writes-refuses (list-tells (now (a .0)) (a .1 .0) (a .1 .1 .0) (length (now (a .1 .1 .1 .0)))) p h

@@ -1,5 +1,5 @@
 -- A connection that a host's call leaves is read back from its cells as it is: its limit and the kinds met have sixteen bits, and a refusal that it keeps has a number from
--- 1 to 16, beside it what fits that number, of sixteen bits, and a place of thirty-two. So does every refusal that the call's word tells.
+-- 1 to 17, beside it what fits that number, of sixteen bits, and a place of thirty-two. So does every refusal that the call's word tells.
 -- Assumes nothing.
 use mathlib.Core.Path.{_≡_, refl, sym, ap, subst, _∙_}
 use mathlib.Core.List.{List, [], _∷_, _++_}
@@ -9,29 +9,30 @@ use native.Mathlib.Omega.{arith}
 use lib.ListN.{length, take, drop}
 use lib.Bits.{or-lt}
 use lib.Pow.{pow-lt}
-use lib.Dec.{ltb, eqb}
-use borrow.Author.Tests.{le-leb}
+use lib.Dec.{ltb, leb, eqb}
+use borrow.Author.Tests.{le-leb, lt-leb, ne-eqb, eqb-true}
 use Rattle.utf8.proofs.Tests as test
-use Rattle.nts.specs.Refusal.{Beside, nothing, code, Refused}
+use Rattle.utf8.proofs.Tests.{never, upto}
+use Rattle.nts.specs.Refusal.{Beside, nothing, code, protocol, algorithm, besideNumber, Refused}
 use Rattle.record.specs.Record.{kind}
 use Rattle.walk.specs.Walk.{Reader, Step, stops, goes, step}
 use Rattle.walk.specs.Judge as judge
-use Rattle.walk.specs.Judge.{readBy}
+use Rattle.walk.specs.Judge.{Terms, readBy}
 use Rattle.walk.specs.Shown.{slotOf}
 use Rattle.walk.specs.Table.{known}
 use Rattle.walk.specs.Met.{Passing, halts, on, metBelow, withMet, passing}
 use Rattle.walk.proofs.Known.{known-below}
-use Rattle.walk.proofs.Numbered.{Small, Sixteen, Fits, Numbered, small-part}
+use Rattle.walk.proofs.Numbered.{Small, Sixteen, coded, bareNumber, bare-not, Fits, Numbered, small-part}
 use Rattle.walk.proofs.Within.{refused-within}
-use Rattle.cells.specs.Cells.{besideNumber, word, cell}
-use Rattle.cells.proofs.Lent.{apart}
+use Rattle.cells.specs.Cells.{marked, word, cell}
+use Rattle.cells.proofs.Lent.{mark-in, apart}
 use Rattle.pieces.specs.Pieces.{Line, started, broken, Standing, pending, accepted, refused, Brought, joined, fitting, Going, waits, decides, going, otherwise, cameTo, beginsAt, comes}
 use Rattle.pieces.specs.Pieces.{Read, Fed, none, answers, refusedAt, firstAnswer, answerOf, isPending, standingBy, lineAfter}
 use Rattle.pieces.proofs.Going.{by-records}
-use Rattle.feeding.specs.Fed.{standingCells, lineCells, hasBeside, isStanding, isConnection, besideIn, standingIn, lineIn}
-use Rattle.feeding.proofs.Holding.{line-sound, standing-sound, standing-held, standing-numbered}
+use Rattle.feeding.specs.Fed.{standingCells, lineCells, noProtocol, noAlgorithm, isMark, hasBeside, isStanding, isConnection, numberIn, besideIn, standingIn, lineIn}
+use Rattle.feeding.proofs.Holding.{of-each, mark-numbered, line-sound, standing-sound, standing-held, standing-numbered}
 use Rattle.feeding.proofs.Refusing.{refusal-same, refused-of}
-use Rattle.feeding.proofs.Answering.{Sixteenth, pending-answer}
+use Rattle.feeding.proofs.Answering.{Seventeenth, pending-answer}
 use Rattle.promises.specs.FedCells.{unheld, connectionIn, refusalIn}
 
 -- ---- bytes
@@ -48,7 +49,7 @@ small-append (x ∷ s) t h g (suc i) = small-append s t (λ j. h (suc j)) g i
 
 pub record Plain (y : Refused) : Type 0 where
   pub low : 1 ≤ y .number
-  pub high : y .number ≤ 16
+  pub high : y .number ≤ 17
   pub fits : Fits (y .number) (y .beside)
   pub sixteen : Sixteen (y .beside)
   pub near : y .place ≤ 4294967295
@@ -56,39 +57,80 @@ pub record Plain (y : Refused) : Type 0 where
 beside-small : (b : Beside) → Sixteen b → besideNumber b < 65536
 beside-small nothing h = omega arith
 beside-small (code c) h = h
+beside-small (protocol c) h = h
+beside-small (algorithm c) h = h
 
--- what is beside it is read back
-beside-told : (n : ℕ) (b : Beside) → Fits n b → besideIn n (besideNumber b) ≡ b
-unfolding hasBeside
-beside-told n nothing f = ap (λ (t : Bool). cond t (code 0) nothing) f
-beside-told n (code c) f = ap (λ (t : Bool). cond t (code c) nothing) f
+-- its number, with what was not offered, and what is beside it are read back
+record MarkOf (n : ℕ) (b : Beside) : Type 0 where
+  pub is : isMark (marked n b) ≡ true
+  pub number : numberIn (marked n b) ≡ n
+  pub beside : besideIn (marked n b) (besideNumber b) ≡ b
+  pub some : (eqb (besideNumber b) 0 || hasBeside (marked n b) || leb noProtocol (marked n b)) ≡ true
 
-beside-some : (n : ℕ) (b : Beside) → Fits n b → (eqb (besideNumber b) 0 || hasBeside n) ≡ true
-unfolding hasBeside
-beside-some n nothing f = refl
-beside-some n (code c) f = ap (λ (t : Bool). eqb c 0 || t) f ∙ or-true (eqb c 0)
+-- below 17 a number stands alone
+module _ (n : ℕ) (low : 1 ≤ n) (high : n ≤ 16) where
+  low-mark : isMark n ≡ true
+  unfolding isMark
+  low-mark = rw (le-leb 1 n low, le-leb n 16 high)
 
-beside-fits : (n x : ℕ) → Fits n (besideIn n x)
-unfolding hasBeside
-beside-fits n x = go (hasBeside n) refl
+  low-beside : (x : ℕ) (t : Bool) → hasBeside n ≡ t → besideIn n x ≡ cond t (code x) nothing
+  low-beside x t e = rw (ne-eqb n noProtocol (λ q. omega arith), ne-eqb n noAlgorithm (λ q. omega arith), e)
+
+  low-number : numberIn n ≡ n
+  low-number = rw (lt-leb noProtocol n (omega arith))
+
+code-some : (c n : ℕ) → hasBeside n ≡ true → (eqb c 0 || hasBeside n || leb noProtocol n) ≡ true
+code-some c n e = go (eqb c 0) (hasBeside n) (leb noProtocol n) e
   where
-    go : (t : Bool) → hasBeside n ≡ t → Fits n (cond t (code x) nothing)
-    go true e = e
-    go false e = e
+    go : (a b d : Bool) → b ≡ true → (a || b || d) ≡ true
+    go true b d e = refl
+    go false true d e = refl
+    go false false d e = never e
+
+mark-of : (n : ℕ) (b : Beside) → 1 ≤ n → n ≤ 17 → Fits n b → MarkOf n b
+unfolding isMark hasBeside
+mark-of n nothing low high f =
+    let z : marked n nothing ≡ n = omega arith in
+    let k : n ≤ 16 = upto 16 n (λ g. g) (λ g. let e : n ≡ 17 = omega arith in never (subst (λ (i : ℕ). bareNumber i ≡ true) e f)) in
+    record { is = ap isMark z ∙ low-mark n low k; number = ap numberIn z ∙ low-number n low k; beside = ap (λ (i : ℕ). besideIn i 0) z ∙ low-beside n low k 0 false (bare-not n f .0); some = refl }
+mark-of n (code c) low high f =
+    let z : marked n (code c) ≡ n = omega arith in
+    let k : n ≤ 16 = upto 16 n (λ g. g) (λ g. let e : n ≡ 17 = omega arith in never (subst (λ (i : ℕ). coded i ≡ true) e f)) in
+    record {
+      is = ap isMark z ∙ low-mark n low k;
+      number = ap numberIn z ∙ low-number n low k;
+      beside = ap (λ (i : ℕ). besideIn i c) z ∙ low-beside n low k c true f;
+      some = ap (λ (i : ℕ). eqb c 0 || hasBeside i || leb noProtocol i) z ∙ code-some c n f;
+    }
+mark-of n (protocol p) low high f =
+    let z : n ≡ 17 = eqb-true n 17 f in
+    rw z (record { is = refl; number = refl; beside = refl; some = or-true (eqb p 0 || false) })
+mark-of n (algorithm a) low high f =
+    let z : n ≡ 17 = eqb-true n 17 f in
+    rw z (record { is = refl; number = refl; beside = refl; some = or-true (eqb a 0 || false) })
+
+beside-fits : (n x : ℕ) → isMark n ≡ true → Fits (numberIn n) (besideIn n x)
+unfolding hasBeside
+beside-fits n x = of-each (λ k. Fits (numberIn k) (besideIn k x)) refl refl refl refl refl refl refl refl refl refl refl refl refl refl refl refl refl refl n
 
 beside-sixteen : (n x : ℕ) → x ≤ 65535 → Sixteen (besideIn n x)
-beside-sixteen n x l = go (hasBeside n)
+beside-sixteen n x l = go (eqb n noProtocol) (eqb n noAlgorithm) (hasBeside n)
   where
-    go : (t : Bool) → Sixteen (cond t (code x) nothing)
-    go true = omega arith
-    go false = tt
+    go : (p a t : Bool) → Sixteen (cond p (protocol x) (cond a (algorithm x) (cond t (code x) nothing)))
+    go true a t = omega arith
+    go false true t = omega arith
+    go false false true = omega arith
+    go false false false = tt
 
 -- from its word
 pub refusal-back : (y : Refused) → Plain y → refusalIn (word y) ≡ y
 refusal-back y p =
-    let e = apart y (omega (arith, p .high)) (beside-small (y .beside) (p .sixteen)) in
-    (λ j. record { number = e .0 j; beside = besideIn (e .0 j) (e .1 j); place = e .2 j })
-    ∙ ap (λ (b : Beside). record { number = y .number; beside = b; place = y .place }) (beside-told (y .number) (y .beside) (p .fits))
+    let n : y .number < 256 = omega (arith, p .high) in
+    let w = mark-in y n in
+    let e = apart y n (beside-small (y .beside) (p .sixteen)) in
+    let m = mark-of (y .number) (y .beside) (p .low) (p .high) (p .fits) in
+    (λ j. record { number = numberIn (w j); beside = besideIn (w j) (e .2 j); place = e .3 j })
+    ∙ (λ j. record { number = m .number j; beside = m .beside j; place = y .place })
 
 -- ---- a connection that cells tell
 
@@ -106,9 +148,10 @@ standing-put pending h = (refl, refl)
 standing-put accepted h = (refl, refl)
 standing-put (refused y) h =
     let p = h y refl in
-    let l : besideNumber (y .beside) ≤ 65535 = omega (arith, beside-small (y .beside) (p .sixteen)) in (
-      rw (le-leb 1 (y .number) (p .low), le-leb (y .number) 16 (p .high), le-leb (besideNumber (y .beside)) 65535 l, beside-some (y .number) (y .beside) (p .fits), le-leb (y .place) 4294967295 (p .near)),
-      ap (λ (b : Beside). refused (record { number = y .number; beside = b; place = y .place })) (beside-told (y .number) (y .beside) (p .fits)),
+    let l : besideNumber (y .beside) ≤ 65535 = omega (arith, beside-small (y .beside) (p .sixteen)) in
+    let m = mark-of (y .number) (y .beside) (p .low) (p .high) (p .fits) in (
+      rw (m .is, le-leb (besideNumber (y .beside)) 65535 l, m .some, le-leb (y .place) 4294967295 (p .near)),
+      λ j. refused (record { number = m .number j; beside = m .beside j; place = y .place }),
     )
 
 -- its cells hold it
@@ -170,9 +213,9 @@ held-plain c i y e =
     let r = standing-numbered (cell c 4) (cell c 5) (cell c 6) (cell c 7) y (standing-sound (cell c 4) (cell c 5) (cell c 6) (cell c 7) (k .standing)) e in
     subst Plain (standing-held (cell c 4) (cell c 5) (cell c 6) (cell c 7) y e)
     (record {
-      low = r .one;
-      high = r .most;
-      fits = beside-fits (cell c 5) (cell c 6);
+      low = mark-numbered (cell c 5) (r .mark) .0;
+      high = mark-numbered (cell c 5) (r .mark) .1;
+      fits = beside-fits (cell c 5) (cell c 6) (r .mark);
       sixteen = beside-sixteen (cell c 5) (cell c 6) (k .beside);
       near = k .place;
     })
@@ -182,7 +225,7 @@ held-line c i = let k = line-sound c i in record { limit = k .limit; met = k .me
 
 -- ---- cells that hold no connection
 
-module _ (X : Read) (b : List ℕ) (h : Brought) (room : ℕ) where
+module _ (X : Read) (b : List ℕ) (h : Brought) (room : Terms) where
   unheld-broken : broken unheld b ≡ true
   unfolding broken
   unheld-broken = or-true (ltb (length b) 1)
@@ -199,12 +242,12 @@ module _ (X : Read) (b : List ℕ) (h : Brought) (room : ℕ) where
 
 -- what is known of the whole-message reader's refusals
 abbrev pub Numbering : Read → Type 0
-Numbering X = (s : List ℕ) (n room : ℕ) (y : Refused) → readBy (X .reader) (X .judging) s (record { limit = n; room = room }) ≡ judge.refused y → Numbered Sixteenth s (y .number) (y .beside)
+Numbering X = (s : List ℕ) (n : ℕ) (x : Terms) (y : Refused) → readBy (X .reader) (X .judging) s (record { limit = n; terms = x }) ≡ judge.refused y → Numbered Seventeenth s (y .number) (y .beside)
 
 nine : Plain (record { number = 9; beside = nothing; place = 0 })
 nine = record { low = omega arith; high = omega arith; fits = refl; sixteen = tt; near = omega arith }
 
-module _ (X : Read) (numbering : Numbering X) (c b : List ℕ) (h : Brought) (room : ℕ) (sb : Small b) (sp : Small (h .piece)) where
+module _ (X : Read) (numbering : Numbering X) (c b : List ℕ) (h : Brought) (room : Terms) (sb : Small b) (sp : Small (h .piece)) where
   module _ (i : isConnection c ≡ true) where
     joined-small : Small (joined (lineIn c) b h)
     unfolding joined
@@ -224,7 +267,7 @@ module _ (X : Read) (numbering : Numbering X) (c b : List ℕ) (h : Brought) (ro
           high = m .one .1;
           fits = m .fits;
           sixteen = m .beside g;
-          near = omega (arith, refused-within (X .reader) (X .judging) s (record { limit = cell c 0; room = cells }) y q, k .limit);
+          near = omega (arith, refused-within (X .reader) (X .judging) s (record { limit = cell c 0; terms = cells }) y q, k .limit);
         })
 
     pub after-plain : PlainLine (lineAfter X (lineIn c) b h room)

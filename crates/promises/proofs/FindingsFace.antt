@@ -93,10 +93,10 @@ module _ (w : WalkHosted) (d : DecideHosted) (message : now (d .a .1 .0) ≡ now
   Handed = (j : ℕ) → j < 48 → cell (now (d .a .0)) j ≡ cell (now (w .e .1 .1 .0)) j
 
   -- then 9 is not the number of what it returns ..
-  pub hosted-nine-only : d .answer % 65536 ≡ 9 → Handed → ⊥
+  pub hosted-nine-only : d .answer % 256 ≡ 9 → Handed → ⊥
   hosted-nine-only e h =
       let p = as-read w d message (alike-told (now (d .a .0)) (now (w .e .1 .1 .0)) h) in
-      let i : In (d .answer % 65536) requestNumbers = number-of (request-tells (now (d .a .1 .0)) (w .a .1 .0) (roomOf (now (d .a .1 .1 .0)))) (p .gives) (λ z. omega (arith, z, e)) in
+      let i : In (d .answer % 256) requestNumbers = number-of (request-tells (now (d .a .1 .0)) (w .a .1 .0) (roomOf (now (d .a .1 .1 .0)))) (p .gives) (λ z. omega (arith, z, e)) in
       let j : In 9 requestNumbers = rw (e) at i in
       true≢false (sym j)
 

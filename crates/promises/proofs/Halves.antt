@@ -1,8 +1,8 @@
--- Messages as they are written, read by the readers of the other side: a written reply or request is accepted, and shows what was written; the
+-- Messages as they are written, read by the readers of the other side: a written request, and a written reply whose protocol and algorithm were offered, is accepted, and shows what was written, and another reply is 17 with just the number that was not; the
 -- replies that agree on nothing, and an error, are refused with their own numbers. Nothing is asked of the length of a body or the size of a
 -- number: the writers refuse a body of more than 65,535 bytes, and numbers have sixteen bits.
 -- Assumes nothing.
-use mathlib.Core.Path.{_≡_, refl, ap, _∙_}
+use mathlib.Core.Path.{_≡_, refl, sym, ap, _∙_}
 use mathlib.Core.Bool.{Bool, true, false, cond, _||_}
 use mathlib.Core.List.{List, [], _∷_, _++_, map, append-assoc, append-nil}
 use Prim.Native.Nat.{ℕ, _+_, _*_, _%_, _≤_}
@@ -10,16 +10,17 @@ use native.Mathlib.Omega.{arith}
 use borrow.Author.Tests.{le-ltb, ne-eqb, eqb-true}
 use lib.Dec.{eqb}
 use lib.ListN.{length, length-append}
+use Rattle.wire.specs.Bytes.{numberAt}
 use Rattle.wire.specs.Over.{bytesOf}
 use Rattle.wire.proofs.Bytes.{number-back}
 use Rattle.utf8.specs.Utf8.{wellFormed}
 use Rattle.utf8.proofs.Tests.{and-left, and-right}
-use Rattle.nts.specs.Refusal.{Beside, nothing, code}
+use Rattle.nts.specs.Refusal.{Beside, nothing, code, protocol, algorithm}
 use Rattle.layout.specs.Table.{rowOf, shapeOf, isUnknown}
 use Rattle.layout.specs.Write.{header}
 use Rattle.layout.specs.declared.Shape.the-variants.{Skipped, Numbers, Number, Bytes, Name}
 use Rattle.walk.specs.Walk.{ends, refuses, Reader, Sighting}
-use Rattle.walk.specs.Judge.{no, yes, Under, Judge, some, bodyIn, refused, accepted, readBy}
+use Rattle.walk.specs.Judge.{no, yes, Terms, roomFor, Under, Judge, some, bodyIn, refused, accepted, readBy}
 use Rattle.walk.specs.Message.{Each, flat, Shows}
 use Rattle.walk.specs.Table.{known, actBy}
 use Rattle.walk.proofs.Laws.{Lawful, read-refused}
@@ -67,6 +68,10 @@ module _ (R : Reader) (D : Judge) (L : Lawful R D) (u : Under) (cs : List (List 
   message-refused k b y =
       rw append-assoc
       (noted-refused R D L u cs endRecord t l h once (last-written R shape end) (omega (arith, length-append (flat cs) endRecord)) k b y)
+
+-- a number, from its two bytes
+pub number-of : (n : ℕ) → numberAt (bytesOf n) 0 ≡ n
+number-of n = ap (λ (b : List ℕ). numberAt b 0) (sym (append-nil (bytesOf n))) ∙ number-back n []
 
 -- ---- a reply
 
@@ -142,25 +147,53 @@ module _ (x : Plan) (s : List ℕ) (utf8 : wellFormed s ≡ true) (l : List (Lis
       reply-kinds (λ j. length (replyBodies j) ≤ 1) k o (omega arith) (omega arith) (one-body (serverSent (x .name) s))
       (one-body (portSent (x .port)))
 
-  reply-decided : (room : ℕ) → 1 ≤ length l → length l ≤ room
-      → reply.decide room (λ (b : List ℕ). b) replyBodies
+  reply-decided : (y : Terms) → 1 ≤ length l → length l ≤ y .room → y .protocols (x .protocol .0) ≡ true → y .algorithms (x .algorithm .0) ≡ true
+      → reply.decide y (λ (b : List ℕ). b) replyBodies
       ≡ yes (reply.reply (bytesOf (x .protocol .0)) (bytesOf (x .algorithm .0)) (serverSent (x .name) s) (portSent (x .port)) (x .«keep_alive») l)
   unfolding reply.decide bytesOf
-  reply-decided room h g =
-      rw (ne-eqb (length l) 0 (λ e. omega arith), le-ltb room (length l) g, first-body (serverSent (x .name) s), first-body (portSent (x .port)), some-kept (x .«keep_alive»))
+  reply-decided y h g op oa =
+      let p = ap (y .protocols) (number-of (x .protocol .0)) ∙ op in
+      let a = ap (y .algorithms) (number-of (x .algorithm .0)) ∙ oa in
+      rw (p, a, ne-eqb (length l) 0 (λ e. omega arith), le-ltb (y .room) (length l) g, first-body (serverSent (x .name) s), first-body (portSent (x .port)), some-kept (x .«keep_alive»))
 
-  -- a key-exchange reply as it is written, whatever follows it and under every limit that holds it, is accepted by the reply reader, if it
-  -- has a cookie and the table room for all of them: and the reader shows the plan's protocol and algorithm, the server's name if one is
+  -- a key-exchange reply as it is written, whatever follows it and under every limit that holds it, is accepted by the reply reader, if its protocol and
+  -- its algorithm were offered, it has a cookie and the table room for all of them: and the reader shows the plan's protocol and algorithm, the server's name if one is
   -- planned, the port if one is planned, keep-alive as planned, and the cookies in their order
-  pub reply-read : (t : List ℕ) (n room : ℕ) → 1 ≤ length l → length l ≤ room → length (messageOf (replyRecords x s l)) ≤ n
+  pub reply-read : (t : List ℕ) (n : ℕ) (y : Terms) → 1 ≤ length l → length l ≤ y .room → y .protocols (x .protocol .0) ≡ true → y .algorithms (x .algorithm .0) ≡ true
+      → length (messageOf (replyRecords x s l)) ≤ n
       → (q : reply.Form Sighting)
-      × (replyOf (messageOf (replyRecords x s l) ++ t) n room ≡ accepted q)
+      × (replyOf (messageOf (replyRecords x s l) ++ t) n y ≡ accepted q)
       × (reply.mapForm (bodyIn (messageOf (replyRecords x s l) ++ t)) q
       ≡ reply.reply (bytesOf (x .protocol .0)) (bytesOf (x .algorithm .0)) (serverSent (x .name) s) (portSent (x .port)) (x .«keep_alive») l)
   unfolding replyOf shapeOf actBy known isUnknown rowOf reply.act
-  reply-read t n room h g f =
-      message-shows reply.reader reply.judging reply-lawful (record { limit = n; room = room }) (replyRecords x s l) t replyBodies reply-noted reply-once refl refl f _
-      (reply-decided room h g)
+  reply-read t n y h g op oa f =
+      message-shows reply.reader reply.judging reply-lawful (record { limit = n; terms = y }) (replyRecords x s l) t replyBodies reply-noted reply-once refl refl f _
+      (reply-decided y h g op oa)
+
+  -- where the protocol was not offered, or it was and the algorithm was not, it is refusal 17 with just that number, at the end record's place
+  unfoldable pub unoffered : Terms → Beside → Type 0
+  unoffered y b = reply.decide y (λ (c : List ℕ). c) replyBodies ≡ no 17 b
+
+  pub protocol-unoffered : (y : Terms) → y .protocols (x .protocol .0) ≡ false → unoffered y (protocol (x .protocol .0))
+  unfolding unoffered reply.decide bytesOf
+  protocol-unoffered y op =
+      let e = number-of (x .protocol .0) in
+      let p = ap (y .protocols) e ∙ op in
+      rw p (ap (λ (n : ℕ). no 17 (protocol n)) e)
+
+  pub algorithm-unoffered : (y : Terms) → y .protocols (x .protocol .0) ≡ true → y .algorithms (x .algorithm .0) ≡ false → unoffered y (algorithm (x .algorithm .0))
+  unfolding unoffered reply.decide bytesOf
+  algorithm-unoffered y op oa =
+      let e = number-of (x .algorithm .0) in
+      let p = ap (y .protocols) (number-of (x .protocol .0)) ∙ op in
+      let a = ap (y .algorithms) e ∙ oa in
+      rw (p, a) (ap (λ (n : ℕ). no 17 (algorithm n)) e)
+
+  pub reply-unoffered : (t : List ℕ) (n : ℕ) (y : Terms) (b : Beside) → unoffered y b → length (messageOf (replyRecords x s l)) ≤ n
+      → replyOf (messageOf (replyRecords x s l) ++ t) n y ≡ refused (record { number = 17; beside = b; place = length (flat (replyRecords x s l)) })
+  unfolding replyOf unoffered shapeOf actBy known isUnknown rowOf reply.act
+  reply-unoffered t n y b e f =
+      message-refused reply.reader reply.judging reply-lawful (record { limit = n; terms = y }) (replyRecords x s l) t replyBodies reply-noted reply-once refl refl f 17 b e
 
 -- ---- a request
 
@@ -213,18 +246,18 @@ module _ (protocols algorithms : List ℕ) (names : List (List ℕ)) (utf8 : all
       ≡ request.keyExchange (cellBytes protocols) (cellBytes algorithms) names)
   unfolding request.request shapeOf actBy known isUnknown rowOf
   request-read t n room g f =
-      message-shows request.reader request.judging request-lawful (record { limit = n; room = room }) (requestRecords protocols algorithms names) t requestBodies
+      message-shows request.reader request.judging request-lawful (record { limit = n; terms = roomFor room }) (requestRecords protocols algorithms names) t requestBodies
       request-noted request-once refl refl f _ (request-decided room g)
 
 -- ---- the other replies
 
-module _ (t : List ℕ) (n room : ℕ) where
+module _ (t : List ℕ) (n : ℕ) (y : Terms) where
   abbrev asked : Under
-  asked = record { limit = n; room = room }
+  asked = record { limit = n; terms = y }
 
   -- the reply that no protocol is agreed on is refusal 13, at its end record's place
   pub no-protocol-read : length (messageOf noProtocolRecords) ≤ n
-      → replyOf (messageOf noProtocolRecords ++ t) n room ≡ refused (record { number = 13; beside = nothing; place = 4 })
+      → replyOf (messageOf noProtocolRecords ++ t) n y ≡ refused (record { number = 13; beside = nothing; place = 4 })
   unfolding replyOf recordOf header bytesOf shapeOf actBy known isUnknown rowOf reply.act reply.decide
   no-protocol-read f =
       let l : ℕ → List (List ℕ) = λ k. cond (eqb 1 k) ([] ∷ []) [] in
@@ -235,7 +268,7 @@ module _ (t : List ℕ) (n room : ℕ) where
 
   -- the reply that no algorithm is agreed on, with whatever protocol, is refusal 14, at its end record's place
   pub no-algorithm-read : (p : ℕ) → length (messageOf (noAlgorithmRecords p)) ≤ n
-      → replyOf (messageOf (noAlgorithmRecords p) ++ t) n room ≡ refused (record { number = 14; beside = nothing; place = 10 })
+      → replyOf (messageOf (noAlgorithmRecords p) ++ t) n y ≡ refused (record { number = 14; beside = nothing; place = 10 })
   unfolding replyOf recordOf header bytesOf shapeOf actBy known isUnknown rowOf reply.act reply.decide
   no-algorithm-read p f =
       let l : ℕ → List (List ℕ) = λ k. cond (eqb 1 k) (bytesOf p ∷ []) [] ++ cond (eqb 4 k) ([] ∷ []) [] in
@@ -247,7 +280,7 @@ module _ (t : List ℕ) (n room : ℕ) where
 
   -- an error reply is refusal 11 with its code, at the error record, which is the first
   pub error-read : (c : ℕ) → length (messageOf (errorRecords c)) ≤ n
-      → replyOf (messageOf (errorRecords c) ++ t) n room ≡ refused (record { number = 11; beside = code c; place = 0 })
+      → replyOf (messageOf (errorRecords c) ++ t) n y ≡ refused (record { number = 11; beside = code c; place = 0 })
   unfolding replyOf shapeOf bytesOf actBy known isUnknown rowOf reply.act
   error-read c f =
       let u = recordWith 2 (bytesOf c) in

@@ -1,34 +1,35 @@
 -- "So the two halves of this library can't disagree": a call of a writer of messages that wrote, and a call of a reader on the bytes that it
--- wrote: whatever follows them, and under every limit that holds them, the reader accepts a written reply or request and hands out what was
--- written, and refuses the other replies with their own numbers. The theorems over the definitions: proofs/Halves.antt.
+-- wrote: whatever follows them, and under every limit that holds them, the reader accepts a written request, and a written reply whose protocol and algorithm were offered, and hands out what was
+-- written, and refuses a reply that names what was not offered with 17 and just that number, and the other replies with their own numbers. The theorems over the definitions: proofs/Halves.antt.
 -- Assumes nothing.
 use mathlib.Core.Path.{_≡_, refl, sym, ap, subst, _∙_}
-use mathlib.Core.List.{List, [], _++_, append-nil}
-use mathlib.Core.Bool.{true}
-use Prim.Native.Nat.{ℕ, _≤_}
+use mathlib.Core.List.{List, [], _++_}
+use mathlib.Core.Bool.{true, false}
+use Prim.Native.Nat.{ℕ, _-_, _≤_}
 use native.Mathlib.Omega.{arith}
-use lib.ListN.{length, take}
+use lib.ListN.{length, take, length-append}
 use denote.Ref.{now}
 use Rattle.wire.specs.Bytes.{numberAt}
 use Rattle.wire.specs.Over.{bytesOf}
-use Rattle.wire.proofs.Bytes.{number-back}
-use Rattle.nts.specs.Refusal.{Refused, nothing, code}
+use Rattle.nts.specs.Refusal.{Beside, nothing, code, protocol, algorithm, Refused}
 use Rattle.nts.specs.declared.NextProtocol.{NextProtocol}
 use Rattle.nts.specs.declared.ErrorCode.{ErrorCode}
-use Rattle.layout.specs.Write.{bytes, fitted, Wrote}
+use Rattle.layout.specs.Write.{header, bytes, fitted, Wrote}
 use Rattle.layout.specs.declared.ByteCount.{ByteCount}
 use Rattle.layout.specs.declared.ByteCount.the-variants.{Bytes}
 use Rattle.walk.specs.Walk.{Sighting}
-use Rattle.walk.specs.Judge.{Under, Answer, refused}
+use Rattle.walk.specs.Judge.{Terms, Under, Answer, refused}
+use Rattle.walk.specs.Message.{flat}
 use Rattle.walk.proofs.Demand3.{Showing}
 use Rattle.plan.specs.Tray.{cookiesIn, namesIn}
 use Rattle.plan.specs.Plan.{replyLength}
 use Rattle.plan.specs.declared.Plan.{Plan}
 use Rattle.plan.specs.declared.Port.{Port}
 use Rattle.plan.specs.declared.Port.the-variants as port
+use Rattle.request.specs.Request as request
 use Rattle.reply.specs.Reply as reply
 use Rattle.reply.specs.Reply.{Sent, notSent, sent, mapSent, replyOf}
-use Rattle.messages.specs.Messages.{cellBytes, allUtf8, messageOf, bodiesOf, replyRecords, replyChecked, noProtocolRecords, noAlgorithmRecords, errorRecords, requestRecords, requestLength, requestChecked}
+use Rattle.messages.specs.Messages.{recordOf, cellBytes, allUtf8, endRecord, messageOf, bodiesOf, replyRecords, replyChecked, noProtocolRecords, noAlgorithmRecords, errorRecords, requestRecords, requestLength, requestChecked}
 use Rattle.messages.proofs.Cleared.{reply-cleared, request-cleared, length-reply, length-request, length-no-protocol, length-no-algorithm, length-error, Stands, wrote-written}
 use Rattle.outgoing.proofs.write_reply.Reads as write-reply
 use Rattle.declining.proofs.write_no_protocol.Reads as write-no-protocol
@@ -42,7 +43,7 @@ use Rattle.promises.specs.Called.{ParseRequest, ParseReply, request-pars
 use Rattle.promises.proofs.Steady.{Faithful}
 use Rattle.promises.proofs.Handing.{request-faithful}
 use Rattle.promises.proofs.HandingReply.{reply-faithful}
-use Rattle.promises.proofs.Halves.{serverSent, portSent, reply-read, request-read, no-protocol-read, no-algorithm-read, error-read}
+use Rattle.promises.proofs.Halves.{number-of, serverSent, portSent, reply-read, unoffered, protocol-unoffered, algorithm-unoffered, reply-unoffered, request-read, no-protocol-read, no-algorithm-read, error-read}
 
 -- ---- calls of the writers: what each function's own contract says
 
@@ -129,8 +130,6 @@ portNumber port.None = notSent
 portNumber (port.Number n) = sent n
 
 -- what is in hand of the bodies that a written reply shows
-number-of : (n : ℕ) → numberAt (bytesOf n) 0 ≡ n
-number-of n = ap (λ (b : List ℕ). numberAt b 0) (sym (append-nil (bytesOf n))) ∙ number-back n []
 
 port-of : (y : Port) → mapSent (λ (b : List ℕ). numberAt b 0) (portSent y) ≡ portNumber y
 port-of port.None = refl
@@ -141,15 +140,22 @@ reply-in-hand : (x : Plan) (server : List ℕ) (l : List (List ℕ))
     ≡ reply-hand.reply (x .protocol .0) (x .algorithm .0) (serverSent (x .name) server) (portNumber (x .port)) (x .«keep_alive») (length l) l
 reply-in-hand x server l = rw (number-of (x .protocol .0), number-of (x .algorithm .0), port-of (x .port))
 
+-- the end record is the last four bytes
+at-end : (f : List ℕ) (k : ℕ) → k ≡ length (f ++ endRecord) → length f ≡ k - 4
+unfolding recordOf header bytesOf
+at-end f k e = omega (arith, e, length-append f endRecord)
+
 module _ (x : Plan) (tray server out : List ℕ) (k : ℕ) (after : List ℕ) (w : WroteReply x tray server out (Bytes k) after) where
   wrote-reply : Wrote (fitted (length out) (replyChecked x server (cookiesIn (x .used) tray))) (messageOf (replyRecords x server (cookiesOf x tray))) out (Bytes k) after
   wrote-reply = rw (← w .of-plan, ← w .of-tray, ← w .of-server, ← w .of-out, ← w .of-exit) (w .met)
 
   -- a call of outgoing::write_reply that wrote k bytes left them in the output; and a call of reply::KeyExchangeResponse::parse on them,
-  -- whatever follows them, under every limit that is k or more, with a table that has room for the cookies, accepts, and hands out the plan's
+  -- whatever follows them, under every limit that is k or more, with a table that has room for the cookies and lists of offers that hold the plan's
+  -- protocol and algorithm, accepts, and hands out the plan's
   -- protocol and algorithm, the server's name and the port if they are planned, keep-alive as planned, and the tray's cookies in their order
   pub reply-read-back : (k ≤ length after)
-      × ((t : List ℕ) (c : ParseReply) → reply-parse .asked c ≡ take k after ++ t → k ≤ reply-parse .under c .limit → length (cookiesOf x tray) ≤ reply-parse .under c .room
+      × ((t : List ℕ) (c : ParseReply) → reply-parse .asked c ≡ take k after ++ t → k ≤ reply-parse .under c .limit → length (cookiesOf x tray) ≤ reply-parse .under c .terms .room
+      → reply-parse .under c .terms .protocols (x .protocol .0) ≡ true → reply-parse .under c .terms .algorithms (x .algorithm .0) ≡ true
       → reply-parse .Accepts c
       (reply-hand.reply (x .protocol .0) (x .algorithm .0) (serverSent (x .name) server) (portNumber (x .port)) (x .«keep_alive») (length (cookiesOf x tray))
       (cookiesOf x tray)))
@@ -163,9 +169,38 @@ module _ (x : Plan) (tray server out : List ℕ) (k : ℕ) (after : List ℕ) (w
       let some : 1 ≤ length l = rw e (j .some) in
       let s = v .stands (length-reply x server l (j .named) ∙ ap (replyLength x) e ∙ sym (j .long)) in (
         s .inside,
-        λ t c a h g.
-            let d = reply-read x server (j .utf8) l t (reply-parse .under c .limit) (reply-parse .under c .room) some g (omega (arith, s .long)) in
+        λ t c a h g op oa.
+            let d = reply-read x server (j .utf8) l t (reply-parse .under c .limit) (reply-parse .under c .terms) some g op oa (omega (arith, s .long)) in
             subst (reply-parse .Accepts c) (reply-in-hand x server l) (shown-back reply-faithful m after k s t c a _ d),
+      )
+
+  -- where the lists do not hold the plan's protocol, or hold it and not its algorithm, the same call refuses with 17 and just that number, at the place of the end record,
+  -- which is the last four bytes, and leaves its table as it was
+  pub reply-refused-back : (k ≤ length after)
+      × ((t : List ℕ) (c : ParseReply) → reply-parse .asked c ≡ take k after ++ t → k ≤ reply-parse .under c .limit
+      → (reply-parse .under c .terms .protocols (x .protocol .0) ≡ false
+      → reply-parse .Refuses c (record { number = 17; beside = protocol (x .protocol .0); place = k - 4 }))
+      × (reply-parse .under c .terms .protocols (x .protocol .0) ≡ true → reply-parse .under c .terms .algorithms (x .algorithm .0) ≡ false
+      → reply-parse .Refuses c (record { number = 17; beside = algorithm (x .algorithm .0); place = k - 4 })))
+  reply-refused-back =
+      let f = cookiesIn (x .used) tray in
+      let l = cookiesOf x tray in
+      let m = messageOf (replyRecords x server l) in
+      let v = wrote-written (replyChecked x server f) m out after k wrote-reply in
+      let j = reply-cleared x server f k (v .judged) in
+      let e : l ≡ j .bodies = ap bodiesOf (j .are) in
+      let s = v .stands (length-reply x server l (j .named) ∙ ap (replyLength x) e ∙ sym (j .long)) in
+      let place : length (flat (replyRecords x server l)) ≡ k - 4 = at-end (flat (replyRecords x server l)) k (s .long) in
+      let refuses : (t : List ℕ) (c : ParseReply) → reply-parse .asked c ≡ take k after ++ t → k ≤ reply-parse .under c .limit → (b : Beside)
+      → unoffered x server (j .utf8) l (reply-parse .under c .terms) b → reply-parse .Refuses c (record { number = 17; beside = b; place = k - 4 }) =
+      λ t c a h b u. refused-back reply-faithful m after k s t c a _
+      (reply-unoffered x server (j .utf8) l t (reply-parse .under c .limit) (reply-parse .under c .terms) b u (omega (arith, s .long))
+      ∙ ap (λ (i : ℕ). refused (record { number = 17; beside = b; place = i })) place) in (
+        s .inside,
+        λ t c a h. (
+          λ op. refuses t c a h _ (protocol-unoffered x server (j .utf8) l (reply-parse .under c .terms) op),
+          λ op oa. refuses t c a h _ (algorithm-unoffered x server (j .utf8) l (reply-parse .under c .terms) op oa),
+        ),
       )
 
 -- ---- a request
@@ -182,8 +217,9 @@ module _ (protocols algorithms tray : List ℕ) (used : ℕ) (out : List ℕ) (k
   -- follows them, under every limit that is k or more, with a table that has room for the names, accepts a key-exchange request, and hands out
   -- the protocols, the algorithms and the tray's names, each in their order
   pub request-read-back : (k ≤ length after)
-      × ((t : List ℕ) (c : ParseRequest) → request-parse .asked c ≡ take k after ++ t → k ≤ request-parse .under c .limit → length (namesOf used tray) ≤ request-parse .under c .room
+      × ((t : List ℕ) (c : ParseRequest) → request-parse .asked c ≡ take k after ++ t → k ≤ request-parse .under c .limit → length (namesOf used tray) ≤ request-parse .under c .terms .room
       → request-parse .Accepts c (request-hand.keyExchange (cellBytes protocols) (cellBytes algorithms) (length (namesOf used tray)) (namesOf used tray)))
+  unfolding request.request
   request-read-back =
       let f = namesIn used tray in
       let l = namesOf used tray in
@@ -195,7 +231,7 @@ module _ (protocols algorithms tray : List ℕ) (used : ℕ) (out : List ℕ) (k
       let s = v .stands (length-request protocols algorithms l ∙ ap (requestLength protocols algorithms) e ∙ sym (j .long)) in (
         s .inside,
         λ t c a h g.
-            let d = request-read protocols algorithms l utf8 t (request-parse .under c .limit) (request-parse .under c .room) g (omega (arith, s .long)) in
+            let d = request-read protocols algorithms l utf8 t (request-parse .under c .limit) (request-parse .under c .terms .room) g (omega (arith, s .long)) in
             shown-back request-faithful m after k s t c a _ d,
       )
 
@@ -205,42 +241,42 @@ same-count : (i k : ℕ) → bytes i ≡ bytes k → i ≡ k
 same-count i k e = cc
 
 -- k bytes stand in the output; and a call of reply::KeyExchangeResponse::parse on them, whatever follows them, under every limit that is k or
--- more, with any table, refuses with y, and leaves its table as it was
+-- more, with any table and lists of offers, refuses with y, and leaves its table as it was
 abbrev pub RefusedBack : ℕ → List ℕ → Refused → Type 1
 RefusedBack k after y =
     (k ≤ length after)
     × ((t : List ℕ) (c : ParseReply) → reply-parse .asked c ≡ take k after ++ t → k ≤ reply-parse .under c .limit → reply-parse .Refuses c y)
 
--- a writer wrote a message of i bytes, which the definition refuses, whatever follows it, under every limit that holds it and with any room
-reply-refused-back : (i : ℕ) (m out after : List ℕ) (k : ℕ) (y : Refused) → Wrote (fitted (length out) (bytes i)) m out (Bytes k) after → length m ≡ i
-    → ((t : List ℕ) (n room : ℕ) → length m ≤ n → replyOf (m ++ t) n room ≡ refused y) → RefusedBack k after y
-reply-refused-back i m out after k y w l law =
+-- a writer wrote a message of i bytes, which the definition refuses, whatever follows it, under every limit that holds it, with any room and whatever was offered
+declined-back : (i : ℕ) (m out after : List ℕ) (k : ℕ) (y : Refused) → Wrote (fitted (length out) (bytes i)) m out (Bytes k) after → length m ≡ i
+    → ((t : List ℕ) (n : ℕ) (x : Terms) → length m ≤ n → replyOf (m ++ t) n x ≡ refused y) → RefusedBack k after y
+declined-back i m out after k y w l law =
     let v = wrote-written (bytes i) m out after k w in
     let e : i ≡ k = same-count i k (v .judged) in
     let s = v .stands (l ∙ e) in (
       s .inside,
-      λ t c a h. refused-back reply-faithful m after k s t c a y (law t (reply-parse .under c .limit) (reply-parse .under c .room) (omega (arith, s .long))),
+      λ t c a h. refused-back reply-faithful m after k s t c a y (law t (reply-parse .under c .limit) (reply-parse .under c .terms) (omega (arith, s .long))),
     )
 
 -- what a call of declining::write_no_protocol wrote, the reply reader's call refuses with 13 and nothing beside it, at its end record's place
 pub no-protocol-read-back : (out : List ℕ) (k : ℕ) (after : List ℕ) → WroteNoProtocol out (Bytes k) after
     → RefusedBack k after (record { number = 13; beside = nothing; place = 4 })
 no-protocol-read-back out k after w =
-    reply-refused-back 8 (messageOf noProtocolRecords) out after k _ (rw (← w .of-out, ← w .of-exit) (w .met)) length-no-protocol
-    (λ t n room h. no-protocol-read t n room h)
+    declined-back 8 (messageOf noProtocolRecords) out after k _ (rw (← w .of-out, ← w .of-exit) (w .met)) length-no-protocol
+    (λ t n x h. no-protocol-read t n x h)
 
 -- what a call of declining::write_no_algorithm wrote, with whatever protocol: with 14 and nothing beside it, at its end record's place
 pub no-algorithm-read-back : (p : NextProtocol) (out : List ℕ) (k : ℕ) (after : List ℕ) → WroteNoAlgorithm p out (Bytes k) after
     → RefusedBack k after (record { number = 14; beside = nothing; place = 10 })
 no-algorithm-read-back p out k after w =
-    reply-refused-back 14 (messageOf (noAlgorithmRecords (p .0))) out after k _ (rw (← w .of-protocol, ← w .of-out, ← w .of-exit) (w .met))
+    declined-back 14 (messageOf (noAlgorithmRecords (p .0))) out after k _ (rw (← w .of-protocol, ← w .of-out, ← w .of-exit) (w .met))
     (length-no-algorithm (p .0))
-    (λ t n room h. no-algorithm-read t n room (p .0) h)
+    (λ t n x h. no-algorithm-read t n x (p .0) h)
 
 -- what a call of declining::write_error wrote: with 11 and beside it the code, at the error record, which is the first
 pub error-read-back : (c : ErrorCode) (out : List ℕ) (k : ℕ) (after : List ℕ) → WroteError c out (Bytes k) after
     → RefusedBack k after (record { number = 11; beside = code (c .0); place = 0 })
 error-read-back c out k after w =
-    reply-refused-back 10 (messageOf (errorRecords (c .0))) out after k _ (rw (← w .of-code, ← w .of-out, ← w .of-exit) (w .met))
+    declined-back 10 (messageOf (errorRecords (c .0))) out after k _ (rw (← w .of-code, ← w .of-out, ← w .of-exit) (w .met))
     (length-error (c .0))
-    (λ t n room h. error-read t n room (c .0) h)
+    (λ t n x h. error-read t n x (c .0) h)

@@ -132,6 +132,7 @@ module _ (m : List ℕ) (n : ℕ) (table : List ℕ) (r : Answer) (table′ : Li
 
 pub reads-faithful : (C : Type 1) (m : C → List ℕ) (n : C → ℕ) (table : C → List ℕ) (r : C → Answer) (table′ : C → List ℕ) → ((c : C) → Reads (m c) (n c) (table c) (r c) (table′ c))
     → Faithful reading shows (answering C m n table r table′) inHand
+unfolding request
 reads-faithful C m n table r table′ met = record {
   accepted-by = λ c s h.
       let q = answered _ _ _ _ _ (met c) (h .0) (h .1) in
@@ -143,4 +144,5 @@ reads-faithful C m n table r table′ met = record {
 }
 
 pub request-faithful : Faithful reading shows request-parse inHand
+unfolding request
 request-faithful = reads-faithful ParseRequest _ _ _ _ _ (λ c. c .met)

@@ -22,7 +22,7 @@ use Rattle.reply.specs.declared.Server.the-variants as server
 use Rattle.reply.specs.declared.Port.{Port}
 use Rattle.reply.specs.declared.Port.the-variants as port
 use Rattle.reply.specs.declared.Answer.the-variants.{Accepted}
-use Rattle.reply.specs.Reply.{Sent, sent, notSent, mapSent, Form, reply, mapForm, replyOf, toldForm, toldBy, toldServer, toldPort, toldReply, cookiesOf, tableAfter, Reads}
+use Rattle.reply.specs.Reply.{Sent, sent, notSent, mapSent, Form, reply, mapForm, replyOf, offering, toldForm, toldBy, toldServer, toldPort, toldReply, cookiesOf, tableAfter, Reads}
 use Rattle.reply.proofs.Order.{shows, reading}
 use Rattle.reply.proofs.Numbered.{reply-numbered}
 use Rattle.cells.specs.Cells.{word, returned, held}
@@ -80,35 +80,36 @@ module _ (m : List ℕ) where
 
 -- ---- a call
 
-module _ {m : List ℕ} {n : ℕ} {table lent : List ℕ} {r : ℕ} {table′ after : List ℕ} (c : ReadsReply m n table lent r table′ after) where
-  pub reply-grants : (q : Form Sighting) → replyOf m n (roomOf table) ≡ accepted q → (r ≡ 0) × (replyInHand m table′ after ≡ inHand (mapForm (bodyIn m) q))
+module _ {m : List ℕ} {n : ℕ} {o : List ℕ × List ℕ} {table lent : List ℕ} {r : ℕ} {table′ after : List ℕ} (c : ReadsReply m n (o .0) (o .1) table lent r table′ after) where
+  pub reply-grants : (q : Form Sighting) → replyOf m n (offering (o .0) (o .1) (roomOf table)) ≡ accepted q → (r ≡ 0) × (replyInHand m table′ after ≡ inHand (mapForm (bodyIn m) q))
   reply-grants q w =
       let x = responseOf m q in
-      let e : toldBy m (replyOf m n (roomOf table)) ≡ toldReply x = ap (toldBy m) w ∙ sym (told-of m q) in
-      let reads : Reads m n table (Accepted x) table′ = record { says = sym e; left = c .left } in (
+      let e : toldBy m (replyOf m n (offering (o .0) (o .1) (roomOf table))) ≡ toldReply x = ap (toldBy m) w ∙ sym (told-of m q) in
+      let reads : Reads m n (o .0) (o .1) table (Accepted x) table′ = record { says = sym e; left = c .left } in (
         c .gives .says ∙ ap (λ (t : _). returned (replyGiven t)) e,
         ap (replyInHand m table′) (c .gives .left ∙ ap (λ (t : _). held (replyGiven t) lent) e) ∙ cells-back m table′ lent x
-            ∙ in-hand m n table (Accepted x) table′ reads x q refl w,
+            ∙ in-hand m n (o .0) (o .1) table (Accepted x) table′ reads x q refl w,
       )
 
-  pub reply-refuses : (y : Refused) → replyOf m n (roomOf table) ≡ refused y → (r ≡ word y) × (table′ ≡ table) × (after ≡ lent)
+  pub reply-refuses : (y : Refused) → replyOf m n (offering (o .0) (o .1) (roomOf table)) ≡ refused y → (r ≡ word y) × (table′ ≡ table) × (after ≡ lent)
   unfolding tableAfter
   reply-refuses y w = (
-    c .gives .says ∙ ap (λ (o : judge.Answer Form). returned (replyGiven (toldBy m o))) w,
-    c .left ∙ ap (λ (o : judge.Answer Form). over (cells (cookiesOf o)) table) w ∙ over-none table,
-    c .gives .left ∙ ap (λ (o : judge.Answer Form). held (replyGiven (toldBy m o)) lent) w,
+    c .gives .says ∙ ap (λ (z : judge.Answer Form). returned (replyGiven (toldBy m z))) w,
+    c .left ∙ ap (λ (z : judge.Answer Form). over (cells (cookiesOf z)) table) w ∙ over-none table,
+    c .gives .left ∙ ap (λ (z : judge.Answer Form). held (replyGiven (toldBy m z)) lent) w,
   )
 
-abbrev pub hosted-reply : Hosted Form Shown
+-- what else is lent is the two lists that were offered
+abbrev pub hosted-reply : Hosted Form Shown (List ℕ × List ℕ)
 hosted-reply = record {
-  reading = replyOf;
+  reading = λ m n o room. replyOf m n (offering (o .0) (o .1) room);
   shows = shows;
-  Reads = ReadsReply;
+  Reads = λ m n o t l r u a. ReadsReply m n (o .0) (o .1) t l r u a;
   hand = replyInHand;
   inHand = inHand;
   grants = reply-grants;
   refuses = reply-refuses;
-  numbered = reply-numbered Table (omega arith);
+  numbered = λ m n o room. reply-numbered Table (omega arith) m n (offering (o .0) (o .1) room);
 }
 
 -- so every call answers as the definition does

@@ -79,21 +79,22 @@ module _ {m : List ℕ} {n : ℕ} {table lent : List ℕ} {r : ℕ} {table′ af
     c .gives .left ∙ ap (λ (o : judge.Answer Form). held (requestGiven (toldBy m o)) lent) w,
   )
 
-abbrev pub hosted-request : Hosted Form Shown
+abbrev pub hosted-request : Hosted Form Shown (Unit {0})
 hosted-request = record {
-  reading = request;
+  reading = λ m n e room. request m n room;
   shows = shows;
-  Reads = ReadsRequest;
+  Reads = λ m n e t l r u a. ReadsRequest m n t l r u a;
   hand = requestInHand;
   inHand = inHand;
   grants = request-grants;
   refuses = request-refuses;
-  numbered = request-numbered Table (omega arith);
+  numbered = λ m n e room. request-numbered Table (omega arith) m n room;
 }
 
 -- so calls that each meet the reader's contract answer as the definition does
 pub reads-hosted : (C : Type 1) (m : C → List ℕ) (n : C → ℕ) (table lent : C → List ℕ) (r : C → ℕ) (table′ after : C → List ℕ)
     → ((c : C) → ReadsRequest (m c) (n c) (table c) (lent c) (r c) (table′ c) (after c)) → Faithful reading shows (answering-host C m n table lent r table′ after) inHand
+unfolding request
 reads-hosted C m n table lent r table′ after met = record {
   accepted-by = λ c s h.
       let q = granted hosted-request (met c) (h .0) in
@@ -103,4 +104,5 @@ reads-hosted C m n table lent r table′ after met = record {
 }
 
 pub request-hosted : Faithful reading shows request-read inHand
+unfolding request
 request-hosted = reads-hosted ReadRequest _ _ _ _ _ _ _ (λ c. c .met)

@@ -14,7 +14,7 @@ use Rattle.nts.specs.Refusal.{Refused}
 use Rattle.record.specs.Record.{kind, size}
 use Rattle.walk.specs.Walk.{Reader, ends, faultIn, actIn, Sighting, Step, stops, goes, meet, judge, step}
 use Rattle.walk.specs.Judge as judging
-use Rattle.walk.specs.Judge.{Under, Judge, bodyIn, readBy}
+use Rattle.walk.specs.Judge.{Terms, Under, Judge, bodyIn, readBy}
 use Rattle.walk.specs.Message.{Whole, Record, End, Each, flat, message, contents}
 use Rattle.walk.specs.Shown.{slotOf}
 use Rattle.walk.specs.Met.{Passing, halts, on, metBelow, withMet, passing}
@@ -70,8 +70,8 @@ module _ (X : Read) (L : Local X) where
   abbrev D : Judge
   D = X .judging
 
-  abbrev under : ℕ → ℕ → Under
-  under n room = record { limit = n; room = room }
+  abbrev under : ℕ → Terms → Under
+  under n x = record { limit = n; terms = x }
 
   -- ---- a message of records, an end record and a tail, and room through the end record
 
@@ -94,14 +94,14 @@ module _ (X : Read) (L : Local X) where
         ∙ ap (decided R) (take-over room front t (omega (arith, length-append (flat cs) e)))
         ∙ decided-more R (stops-in X L) front _ front-decides
 
-    answer-through : (n room : ℕ) (closed : Bool) (cells : ℕ) → length (flat cs) + length e ≤ room
+    answer-through : (n room : ℕ) (closed : Bool) (cells : Terms) → length (flat cs) + length e ≤ room
         → answerOn X n room (record { piece = message cs e t; closed = closed }) cells ≡ answers (readBy R D (message cs e t) (under n cells))
     unfolding answerOn lacksRoom undecided
     answer-through n room closed cells l = rw (room-decides room l, all-decide, and-false, and-false)
 
   -- ---- an answer that accepts is the whole-message reader's
 
-  module _ (n room : ℕ) (j : List ℕ) (closed : Bool) (cells : ℕ) where
+  module _ (n room : ℕ) (j : List ℕ) (closed : Bool) (cells : Terms) where
     abbrev joined : Brought
     joined = record { piece = j; closed = closed }
 
@@ -153,13 +153,13 @@ module _ (X : Read) (L : Local X) where
       j = all .piece
 
       abbrev asked : Under
-      asked = under (c .limit) (x .room)
+      asked = under (c .limit) (x .terms)
 
       abbrev i : ℕ
       i = heldOn R (c .limit) (length (c .buffer)) j
 
       abbrev answer : Fed (D .Q)
-      answer = answerOn X (c .limit) (length (c .buffer)) all (x .room)
+      answer = answerOn X (c .limit) (length (c .buffer)) all (x .terms)
 
       told : Told X (c .limit) (c .buffer) all x
       told = however-cut X L F (G .meets) .first (c .limit) (c .buffer) (c .before) (c .last) (c .online) (c .waited)
@@ -168,20 +168,20 @@ module _ (X : Read) (L : Local X) where
       gathered-is =
           ap (λ (k : ℕ). take k (x .left)) (told .gathered)
           ∙ ap (take i) (told .buffer)
-          ∙ waiting.take-over (take i j) (c .buffer) i (held-long (c .limit) (length (c .buffer)) j (all .closed) (x .room))
+          ∙ waiting.take-over (take i j) (c .buffer) i (held-long (c .limit) (length (c .buffer)) j (all .closed) (x .terms))
 
       both : gathered x ++ drop i j ≡ j
       both = ap (λ (s : List ℕ). s ++ drop i j) gathered-is ∙ take-append-drop i j
 
       -- what is accepted of the joined bytes is so of those gathered, which say and show the same
       module _ (q : D .Q Sighting) (a : answer ≡ answers (judging.accepted q)) where
-        by : Reads (c .limit) (length (c .buffer)) j (all .closed) (x .room) (judging.accepted q)
-        by = accepted-reads (c .limit) (length (c .buffer)) j (all .closed) (x .room) q a
+        by : Reads (c .limit) (length (c .buffer)) j (all .closed) (x .terms) (judging.accepted q)
+        by = accepted-reads (c .limit) (length (c .buffer)) j (all .closed) (x .terms) q a
 
         read-gathered : readBy R D (gathered x) asked ≡ judging.accepted q
         read-gathered =
             ap (λ (s : List ℕ). readBy R D s asked) gathered-is
-            ∙ read-held X L (c .limit) (length (c .buffer)) j (all .closed) (x .room) (by .room-for) (by .sure)
+            ∙ read-held X L (c .limit) (length (c .buffer)) j (all .closed) (x .terms) (by .room-for) (by .sure)
             ∙ by .whole-is
 
         said-gathered : x .said ≡ says (X .tells (gathered x) (judging.accepted q))
@@ -205,8 +205,8 @@ module _ (X : Read) (L : Local X) where
       -- with room through the end record the answer is the whole-message reader's
       answer-able : Able (readBy R D) (contents D) (joinedReader F) c → answer ≡ answers (readBy R D j asked)
       answer-able r =
-          ap (λ (s : List ℕ). answerOn X (c .limit) (length (c .buffer)) (record { piece = s; closed = all .closed }) (x .room)) (r .asked)
-          ∙ answer-through (r .front) (r .last) (r .tail) (r .each) (r .ends) (c .limit) (length (c .buffer)) (all .closed) (x .room) (r .holds)
+          ap (λ (s : List ℕ). answerOn X (c .limit) (length (c .buffer)) (record { piece = s; closed = all .closed }) (x .terms)) (r .asked)
+          ∙ answer-through (r .front) (r .last) (r .tail) (r .each) (r .ends) (c .limit) (length (c .buffer)) (all .closed) (x .terms) (r .holds)
           ∙ ap (λ (s : List ℕ). answers (readBy R D s asked)) (sym (r .asked))
 
       refuses-joined : (y : Refused) → answer ≡ answers (judging.refused y) → F .Refuses (c .last) y

@@ -31,6 +31,7 @@ pub mod Locals
 pub mod ExamplesPieces
 pub mod Joined
 pub mod Spoken
+pub mod Offered
 pub mod Pieces
 pub mod FedLines
 pub mod PiecesFace

@@ -1,9 +1,9 @@
 -- The two sorts of read keep what a read in pieces asks of them: each decides, and tells of its answer, by bodies that were found alone, and asks of the room for names or
 -- cookies no more than whether it is enough. So they answer alike however their messages are cut.
 -- Assumes nothing.
-use mathlib.Core.Path.{_≡_, refl, ap, _∙_}
+use mathlib.Core.Path.{_≡_, refl, sym, ap, _∙_}
 use mathlib.Core.List.{List, [], _∷_, _++_, map}
-use mathlib.Core.Bool.{Bool, true, false, cond, _||_}
+use mathlib.Core.Bool.{Bool, true, false, cond, not, _||_}
 use Prim.Native.Nat.{ℕ, _+_, _≤_}
 use native.Mathlib.Omega.{arith}
 use lib.ListN.{length, take, drop, length-drop}
@@ -11,10 +11,10 @@ use lib.Seq.{drop-append-le, take-append-le}
 use lib.Dec.{ltb, eqb}
 use borrow.Author.Tests.{le-ltb}
 use Rattle.wire.specs.Bytes.{numberAt}
-use Rattle.nts.specs.Refusal.{nothing}
+use Rattle.nts.specs.Refusal.{Beside, nothing}
 use Rattle.walk.specs.Walk.{Sighting}
 use Rattle.walk.specs.Judge as judge
-use Rattle.walk.specs.Judge.{Under, Verdict, no, yes, some, withFirst, bodyIn, readBy}
+use Rattle.walk.specs.Judge.{Terms, roomFor, Under, Verdict, no, yes, some, withFirst, bodyIn, readBy}
 use Rattle.walk.proofs.Noted.{Inside}
 use Rattle.walk.proofs.Demand3.{zero-ends}
 use Rattle.request.specs.Request as requests
@@ -54,6 +54,11 @@ module _ {Q : Type 0 → Type 0} (q : Q Sighting) where
       → withFirst l v f ≡ yes q → withFirst l v′ f′ ≡ yes q
   first-yes [] v v′ f f′ g h e = g e
   first-yes (x ∷ l) v v′ f f′ g h e = h x e
+
+  -- as where it was let in
+  let-yes : (t : Bool) (n : ℕ) (b : Beside) (v w : Verdict Q Sighting) → (v ≡ yes q → w ≡ yes q) → cond (not t) (no n b) v ≡ yes q → w ≡ yes q
+  let-yes true n b v w f e = f e
+  let-yes false n b v w f e = let z : _≡_ {A = ℕ} 0 1 = cc in absurd (omega arith)
 
   -- as with less room, so with enough
   room-yes : (room room′ n : ℕ) (v : Verdict Q Sighting) → n ≤ room′ → cond (ltb room n) (no 7 nothing) v ≡ yes q → cond (ltb room′ n) (no 7 nothing) v ≡ yes q
@@ -95,7 +100,7 @@ module _ (m t : List ℕ) where
   request-shown : (u : Under) (q : requests.Form Sighting) → readBy requests.reader requests.judging m u ≡ judge.accepted q
       → requests.mapForm (bodyIn (m ++ t)) q ≡ requests.mapForm (bodyIn m) q
   unfolding requests.request
-  request-shown u q e = map-tail q (request-order.accepted-inside m (u .limit) (u .room) q e)
+  request-shown u q e = map-tail q (request-order.accepted-inside m (u .limit) (u .terms .room) q (sym (request-order.room-alone m u) ∙ e))
 
   request-told : (u : Under) → requests.toldBy (m ++ t) (readBy requests.reader requests.judging m u) ≡ requests.toldBy m (readBy requests.reader requests.judging m u)
   unfolding requests.request
@@ -103,7 +108,7 @@ module _ (m t : List ℕ) where
     where
       go : (x : judge.Answer requests.Form) → readBy requests.reader requests.judging m u ≡ x → requests.toldBy (m ++ t) x ≡ requests.toldBy m x
       go (judge.refused r) e = refl
-      go (judge.accepted q) e = form-tail q (request-order.accepted-inside m (u .limit) (u .room) q e)
+      go (judge.accepted q) e = form-tail q (request-order.accepted-inside m (u .limit) (u .terms .room) q (sym (request-order.room-alone m u) ∙ e))
 
 request-roomy : (room room′ : ℕ) (l : ℕ → List Sighting) (val : Sighting → List ℕ) (q : requests.Form Sighting) → ((k : ℕ) → length (l k) ≤ room′)
     → requests.decide room val l ≡ yes q → requests.decide room′ val l ≡ yes q
@@ -118,20 +123,20 @@ pub request-local : Local requestRead
 request-local = record {
   rules = requests.rules;
   table = request-reader.table-reader;
-  decides = λ u l m t i. request-tail m t (u .room) l i;
+  decides = λ u l m t i. request-tail m t (u .terms .room) l i;
   tells = λ m t u. request-told m t u;
   shows = λ m t u q e. request-shown m t u q e;
   ends = λ e z. zero-ends requests.act requests.once request-goes e z;
   refuses = λ m m′ r. refl;
-  roomy = λ n room room′ l val q few e. request-roomy room room′ l val q few e;
+  roomy = λ n x room l val q few e. request-roomy (x .room) room l val q few e;
 }
 
 -- ---- replies
 
 module _ (m t : List ℕ) where
-  reply-tail : (room : ℕ) (l : ℕ → List Sighting) → ((k : ℕ) → Inside (length m) (l k)) → replies.decide room (bodyIn (m ++ t)) l ≡ replies.decide room (bodyIn m) l
+  reply-tail : (x : Terms) (l : ℕ → List Sighting) → ((k : ℕ) → Inside (length m) (l k)) → replies.decide x (bodyIn (m ++ t)) l ≡ replies.decide x (bodyIn m) l
   unfolding replies.decide
-  reply-tail room l i =
+  reply-tail x l i =
       first-same (length m) (l 1) _ _ _ (i 1)
       (λ p hp. rw (body-tail m t p hp)
       (ap (cond (eqb (length (bodyIn m p)) 0) (no 13 nothing))
@@ -156,7 +161,7 @@ module _ (m t : List ℕ) where
   reply-shown : (u : Under) (q : replies.Form Sighting) → readBy replies.reader replies.judging m u ≡ judge.accepted q
       → replies.mapForm (bodyIn (m ++ t)) q ≡ replies.mapForm (bodyIn m) q
   unfolding replies.replyOf
-  reply-shown u q e = reply-map-tail q (reply-order.accepted-inside m (u .limit) (u .room) q e)
+  reply-shown u q e = reply-map-tail q (reply-order.accepted-inside m (u .limit) (u .terms) q e)
 
   reply-told : (u : Under) → replies.toldBy (m ++ t) (readBy replies.reader replies.judging m u) ≡ replies.toldBy m (readBy replies.reader replies.judging m u)
   unfolding replies.replyOf
@@ -164,27 +169,29 @@ module _ (m t : List ℕ) where
     where
       go : (x : judge.Answer replies.Form) → readBy replies.reader replies.judging m u ≡ x → replies.toldBy (m ++ t) x ≡ replies.toldBy m x
       go (judge.refused r) e = refl
-      go (judge.accepted q) e = reply-form-tail q (reply-order.accepted-inside m (u .limit) (u .room) q e)
+      go (judge.accepted q) e = reply-form-tail q (reply-order.accepted-inside m (u .limit) (u .terms) q e)
 
-reply-roomy : (room room′ : ℕ) (l : ℕ → List Sighting) (val : Sighting → List ℕ) (q : replies.Form Sighting) → ((k : ℕ) → length (l k) ≤ room′)
-    → replies.decide room val l ≡ yes q → replies.decide room′ val l ≡ yes q
+reply-roomy : (x : Terms) (room : ℕ) (l : ℕ → List Sighting) (val : Sighting → List ℕ) (q : replies.Form Sighting) → ((k : ℕ) → length (l k) ≤ room)
+    → replies.decide x val l ≡ yes q → replies.decide (roomFor room) val l ≡ yes q
 unfolding replies.decide
-reply-roomy room room′ l val q few =
+reply-roomy x room l val q few =
     first-yes q (l 1) _ _ _ _ (λ e. e)
     (λ p. if-yes q (eqb (length (val p)) 0) _ _ _ _ (λ e. e)
     (first-yes q (l 4) _ _ _ _ (λ e. e)
     (λ a. if-yes q (eqb (length (val a)) 0) _ _ _ _ (λ e. e)
+    (let-yes q (x .protocols (numberAt (val p) 0)) _ _ _ _
+    (let-yes q (x .algorithms (numberAt (val a) 0)) _ _ _ _
     (if-yes q (eqb (length (l 5)) 0) _ _ _ _ (λ e. e)
-    (room-yes q room room′ (length (l 5)) _ (few 5))))))
+    (room-yes q (x .room) room (length (l 5)) _ (few 5))))))))
 
 pub reply-local : Local replyRead
 reply-local = record {
   rules = replies.rules;
   table = reply-reader.table-reader;
-  decides = λ u l m t i. reply-tail m t (u .room) l i;
+  decides = λ u l m t i. reply-tail m t (u .terms) l i;
   tells = λ m t u. reply-told m t u;
   shows = λ m t u q e. reply-shown m t u q e;
   ends = λ e z. zero-ends replies.act replies.once reply-goes e z;
   refuses = λ m m′ r. refl;
-  roomy = λ n room room′ l val q few e. reply-roomy room room′ l val q few e;
+  roomy = λ n x room l val q few e. reply-roomy x room l val q few e;
 }

@@ -11,8 +11,8 @@ use Rattle.request.specs.Request as request-form
 use Rattle.request.proofs.Order as request-order
 use Rattle.reply.specs.Reply as reply-form
 use Rattle.reply.proofs.Order as reply-order
-use Rattle.places.specs.Places.{roomOf}
-use Rattle.pieces.specs.Pieces.{Line, Brought, Read, Says, Hands, isPending, lineAfter, bufferAfter, tableAfter, toldConnection}
+use Rattle.walk.specs.Judge.{Terms}
+use Rattle.pieces.specs.Pieces.{Line, Brought, Read, Says, saysOf, held, answerOf, Hands, isPending, lineAfter, bufferAfter, tableAfter, toldConnection}
 use Rattle.pieces.proofs.Apart.{connection-apart}
 use Rattle.pieces.proofs.feed_request.Reads as feed-request
 use Rattle.pieces.proofs.feed_reply.Reads as feed-reply
@@ -31,7 +31,9 @@ use Rattle.promises.specs.Handed as requests
 use Rattle.promises.specs.HandedReply as replies
 use Rattle.promises.specs.Demand3.{Demand3}
 use Rattle.promises.specs.Pieces.{HoweverCut, joinedReader}
-use Rattle.promises.specs.Fed.{FeedRequest, FeedReply, HandCall, HandOverCall, Over, handed, handedOver, madeOver, saidRequest, saidReply, requestOver, replyOver, request-fed, reply-fed, request-handed, reply-handed, request-handed-over, reply-handed-over}
+use Rattle.promises.specs.Fed.{FeedRequest, FeedReply, HandCall, HandOverCall, Over, handed, handedOver, madeOver, saidRequest, saidReply, lentRequest, lentReply, requestOver, replyOver, request-fed, reply-fed, request-handed, reply-handed, request-handed-over, reply-handed-over}
+use Rattle.promises.specs.Offered.{Answers}
+use Rattle.promises.proofs.Offered.{answers-by}
 use Rattle.promises.proofs.Steady.{Answering, by-calls}
 use Rattle.promises.proofs.Demand3.{request-demand, reply-demand}
 use Rattle.promises.proofs.Cutting.{Meets, however-cut}
@@ -88,24 +90,24 @@ said-reply (replied.Accepted y) = refl
 said-reply (replied.Refused x) = refl
 
 abbrev Handed-by : Over → Expected → Type 0
-Handed-by o w = HandsOver (o .connection) w (o .piece) (o .closed) (o .buffer) (o .table) (o .handed) (o .left) (o .filled)
+Handed-by o w = HandsOver (o .connection) w (o .piece) (o .closed) (o .protocols) (o .algorithms) (o .buffer) (o .table) (o .handed) (o .left) (o .filled)
 
--- what was handed is a connection and an answer, of which `said` says what the contract does
-over-meets : (X : Read) (said : Answer → Says (X .Told)) (o : Over) (told : Says (X .Told)) (c : Connection) (a : Answer) → o .handed ≡ record { connection = c; answer = a } → told ≡ said a
-    → Hands X (toldConnection (o .connection)) (o .buffer) (record { piece = o .piece; closed = o .closed }) (roomOf (o .table)) (o .table) told (toldConnection c) (o .left) (o .filled)
-    → Meets X (madeOver X said o)
-over-meets X said o told c a e s p =
-    subst
-    (λ (h : Handed). Meets X
-    (madeOver X said (record { connection = o .connection; piece = o .piece; closed = o .closed; buffer = o .buffer; table = o .table; handed = h; left = o .left; filled = o .filled })))
-    (sym e)
-    (record { answer = sym s ∙ p .answer; line = p .line; buffer = p .buffer; table = p .table })
+-- what was handed is a connection and an answer, of which `said` says what the contract does, under what `lent` says
+over-meets : (X : Read) (said : Answer → Says (X .Told)) (lent : Over → Terms) (o : Over) (told : Says (X .Told)) (c : Connection) (a : Answer) → o .handed ≡ record { connection = c; answer = a } → told ≡ said a
+    → Hands X (toldConnection (o .connection)) (o .buffer) (record { piece = o .piece; closed = o .closed }) (lent o) (o .table) told (toldConnection c) (o .left) (o .filled)
+    → Meets X (madeOver X said lent o)
+over-meets X said lent o told c a e s p = record {
+  answer = ap (λ (h : Handed). said (h .answer)) e ∙ sym s ∙ p .answer ∙ ap (λ (h : Handed). saysOf X (held (toldConnection (h .connection)) (o .left)) (answerOf X (toldConnection (o .connection)) (o .buffer) (record { piece = o .piece; closed = o .closed }) (lent o))) (sym e);
+  line = ap (λ (h : Handed). toldConnection (h .connection)) e ∙ p .line;
+  buffer = p .buffer;
+  table = p .table;
+}
 
-request-meets : (o : Over) → Handed-by o expected.Request → Meets requestRead (madeOver requestRead saidRequest o)
-request-meets o p = over-meets requestRead saidRequest o (toldRequest (p .0 .answer)) (p .0 .connection) (ofRequest (p .0 .answer)) (p .2) (said-request (p .0 .answer)) (p .1)
+request-meets : (o : Over) → Handed-by o expected.Request → Meets requestRead (madeOver requestRead saidRequest lentRequest o)
+request-meets o p = over-meets requestRead saidRequest lentRequest o (toldRequest (p .0 .answer)) (p .0 .connection) (ofRequest (p .0 .answer)) (p .2) (said-request (p .0 .answer)) (p .1)
 
-reply-meets : (o : Over) → Handed-by o expected.Reply → Meets replyRead (madeOver replyRead saidReply o)
-reply-meets o p = over-meets replyRead saidReply o (toldReply (p .0 .answer)) (p .0 .connection) (ofReply (p .0 .answer)) (p .2) (said-reply (p .0 .answer)) (p .1)
+reply-meets : (o : Over) → Handed-by o expected.Reply → Meets replyRead (madeOver replyRead saidReply lentReply o)
+reply-meets o p = over-meets replyRead saidReply lentReply o (toldReply (p .0 .answer)) (p .0 .connection) (ofReply (p .0 .answer)) (p .2) (said-reply (p .0 .answer)) (p .1)
 
 handed-by : {w : Expected} (c : HandCall w) → Handed-by (handed c) w
 handed-by c = subst (Handed-by (handed c)) (c .expects) (c .met)
@@ -190,10 +192,25 @@ hand-over-request-demand = request-joined handed-over-request
 pub hand-over-reply-demand : Demand3 (joinedReader reply-handed-over)
 hand-over-reply-demand = reply-joined handed-over-reply
 
+-- ---- what it accepts was offered, by the lists that the call which answered was lent
+
+reply-offered : {F : _} → Handing replyRead reply-local F replies.inHand → Answers (joinedReader F)
+unfolding reply-form.replyOf
+reply-offered {F} g = answers-by (joinedReader F) (joined-answering replyRead reply-local F replies.inHand g)
+
+pub feed-reply-answers : Answers (joinedReader reply-fed)
+feed-reply-answers = reply-offered fed-reply
+
+pub hand-reply-answers : Answers (joinedReader reply-handed)
+hand-reply-answers = reply-offered handed-reply
+
+pub hand-over-reply-answers : Answers (joinedReader reply-handed-over)
+hand-over-reply-answers = reply-offered handed-over-reply
+
 -- ---- 9, "first and changing nothing"; and "Once an answer exists, later calls change nothing": connection, buffer and table are as they were. That 9 is given exactly to a
 -- connection which counts too many bytes: ExactFed.antt
 
-quiet : (X : Read) {c : Line} {b : List ℕ} {h : Brought} {room : ℕ} {t : List ℕ} {r : Says (X .Told)} {c′ : Line} {b′ t′ : List ℕ} → Hands X c b h room t r c′ b′ t′
+quiet : (X : Read) {c : Line} {b : List ℕ} {h : Brought} {room : Terms} {t : List ℕ} {r : Says (X .Told)} {c′ : Line} {b′ t′ : List ℕ} → Hands X c b h room t r c′ b′ t′
     → isPending c b ≡ false → (c′ ≡ c) × (b′ ≡ b) × (t′ ≡ t)
 unfolding lineAfter bufferAfter tableAfter
 quiet X p q = (p .line ∙ rw q, p .buffer ∙ rw q, p .table ∙ rw q)
@@ -202,8 +219,8 @@ pub feed-request-quiet : (κs : _) (a : _) (r : _) (e : _) → feed-request.Lear
     → (r .connection ≡ a .0) × (now (e .1 .1 .1 .0) ≡ now (a .1 .1 .1 .0)) × (now (e .1 .1 .1 .1 .0) ≡ now (a .1 .1 .1 .1 .0))
 feed-request-quiet κs a r e p q = let s = quiet requestRead p q in (connection-apart (r .connection) (a .0) (s .0), s .1, s .2)
 
-pub feed-reply-quiet : (κs : _) (a : _) (r : _) (e : _) → feed-reply.Learnt κs a r e → isPending (toldConnection (a .0)) (now (a .1 .1 .1 .0)) ≡ false
-    → (r .connection ≡ a .0) × (now (e .1 .1 .1 .0) ≡ now (a .1 .1 .1 .0)) × (now (e .1 .1 .1 .1 .0) ≡ now (a .1 .1 .1 .1 .0))
+pub feed-reply-quiet : (κs : _) (a : _) (r : _) (e : _) → feed-reply.Learnt κs a r e → isPending (toldConnection (a .0)) (now (a .1 .1 .1 .1 .1 .0)) ≡ false
+    → (r .connection ≡ a .0) × (now (e .1 .1 .1 .1 .1 .0) ≡ now (a .1 .1 .1 .1 .1 .0)) × (now (e .1 .1 .1 .1 .1 .1 .0) ≡ now (a .1 .1 .1 .1 .1 .1 .0))
 feed-reply-quiet κs a r e p q = let s = quiet replyRead p q in (connection-apart (r .connection) (a .0) (s .0), s .1, s .2)
 
 -- by which message is expected

@@ -15,7 +15,7 @@ use Rattle.wire.specs.Bytes.{numberAt}
 use Rattle.nts.specs.Refusal.{nothing, Refused}
 use Rattle.walk.specs.Walk.{Sighting}
 use Rattle.walk.specs.Judge as judge
-use Rattle.walk.specs.Judge.{Under, bodyIn, partOf, readBy}
+use Rattle.walk.specs.Judge.{Terms, Under, bodyIn, partOf, readBy}
 use Rattle.walk.specs.Message.{contents}
 use Rattle.walk.proofs.Numbered.{Small}
 use Rattle.places.specs.Places.{roomOf}
@@ -39,13 +39,15 @@ use Rattle.pieces.specs.Pieces.{Line, started, Brought, Read, Fed, none, answer
 use Rattle.pieces.specs.Reads.{requestRead, replyRead}
 use Rattle.feeding.specs.Fed.{lineCells, isConnection, lineIn, fedWord, fedCells, saysIn, Feeds}
 use Rattle.feeding.proofs.ntske_connection_new.Reads as connection-new
-use Rattle.feeding.proofs.Answering.{Sixteenth, Host, host-request, host-reply, word-waits, line-unmoved, buffer-unmoved, table-unmoved}
+use Rattle.feeding.proofs.Answering.{Seventeenth, Host, host-request, host-reply, word-waits, line-unmoved, buffer-unmoved, table-unmoved}
 use Rattle.promises.specs.Handed as hand
 use Rattle.promises.specs.HandedReply as hand-reply
 use Rattle.promises.specs.Cells.{requestInHand, replyInHand}
 use Rattle.promises.specs.Demand3.{Demand3}
 use Rattle.promises.specs.Pieces.{Feeder, madeBy, OnLine, joinedReader}
 use Rattle.promises.specs.FedCells.{HostCall, unheld, connectionIn, saidIn, requestTold, replyTold, hostFeeder, Either, feeds, closes, HostFeedRequest, HostCloseRequest, requestCall, request-by-host, HostFeedReply, HostCloseReply, replyCall, reply-by-host, hostCalls, cellsIn, OnCells, Holds, CutByHost}
+use Rattle.promises.specs.Offered.{Answers}
+use Rattle.promises.proofs.Offered.{answers-by}
 use Rattle.promises.proofs.Steady.{by-calls}
 use Rattle.promises.proofs.Demand3.{request-demand, reply-demand}
 use Rattle.promises.proofs.Cutting.{Local, Meets, however-cut}
@@ -86,58 +88,58 @@ module _ {X : Read} {f : X .Told → Given} {tells : List ℕ → X .Told} {refu
   -- ---- one call
 
   -- what a contract says, of the connection l that the cells hold
-  record Means (l : Line) (b : List ℕ) (h : Brought) (t lent : List ℕ) (r : ℕ) (l′ : Line) (b′ t′ after : List ℕ) : Type 0 where
-    pub word : r ≡ fedWord f (saysIn X l b h (roomOf t))
-    pub line : l′ ≡ lineAfter X l b h (roomOf t)
+  record Means (l : Line) (b : List ℕ) (h : Brought) (u : Terms) (t lent : List ℕ) (r : ℕ) (l′ : Line) (b′ t′ after : List ℕ) : Type 0 where
+    pub word : r ≡ fedWord f (saysIn X l b h u)
+    pub line : l′ ≡ lineAfter X l b h u
     pub buffer : b′ ≡ bufferAfter X l b h
-    pub table : t′ ≡ tableAfter X l b h (roomOf t) t
-    pub answer : after ≡ fedCells f (saysIn X l b h (roomOf t)) lent
+    pub table : t′ ≡ tableAfter X l b h u t
+    pub answer : after ≡ fedCells f (saysIn X l b h u) lent
 
-  module _ {c b : List ℕ} {h : Brought} {t lent : List ℕ} {r : ℕ} {c′ b′ t′ after : List ℕ} (p : Feeds X f c b h t lent r c′ b′ t′ after) (sb : Small b) (sp : Small (h .piece)) where
+  module _ {c b : List ℕ} {h : Brought} {u : Terms} {t lent : List ℕ} {r : ℕ} {c′ b′ t′ after : List ℕ} (p : Feeds X f c b h u t lent r c′ b′ t′ after) (sb : Small b) (sp : Small (h .piece)) where
     abbrev l : Line
     l = connectionIn c
 
     abbrev m : List ℕ
-    m = held (lineAfter X unheld b h (roomOf t)) (bufferAfter X unheld b h)
+    m = held (lineAfter X unheld b h u) (bufferAfter X unheld b h)
 
-    by-held : isConnection c ≡ true → Means (lineIn c) b h t lent r (connectionIn c′) b′ t′ after
+    by-held : isConnection c ≡ true → Means (lineIn c) b h u t lent r (connectionIn c′) b′ t′ after
     by-held i = record {
       word = rw i at (p .word);
-      line = ap connectionIn (rw i at (p .connection)) ∙ line-forth (lineAfter X (lineIn c) b h (roomOf t)) (after-plain X (P .numbering) c b h (roomOf t) sb sp i);
+      line = ap connectionIn (rw i at (p .connection)) ∙ line-forth (lineAfter X (lineIn c) b h u) (after-plain X (P .numbering) c b h u sb sp i);
       buffer = rw i at (p .buffer);
       table = rw i at (p .table);
       answer = rw i at (p .answer);
     }
 
-    nine : saysIn X unheld b h (roomOf t) ≡ says (X .tells m (judge.refused (unplaced 9 nothing)))
-    nine = ap (saysOf X m) (unheld-answer X b h (roomOf t))
+    nine : saysIn X unheld b h u ≡ says (X .tells m (judge.refused (unplaced 9 nothing)))
+    nine = ap (saysOf X m) (unheld-answer X b h u)
 
     quiet : isPending unheld b ≡ false
-    quiet = unheld-quiet X b h (roomOf t)
+    quiet = unheld-quiet X b h u
 
-    by-none : isConnection c ≡ false → Means unheld b h t lent r (connectionIn c′) b′ t′ after
+    by-none : isConnection c ≡ false → Means unheld b h u t lent r (connectionIn c′) b′ t′ after
     by-none i = record {
       word = (rw i at (p .word)) ∙ sym (ap (fedWord f) nine ∙ ap returned (P .host .refuse m (unplaced 9 nothing)));
-      line = ap connectionIn (rw i at (p .connection)) ∙ ap (λ (s : Bool). cond s (lineIn c) unheld) i ∙ sym (line-unmoved X unheld b h (roomOf t) quiet);
+      line = ap connectionIn (rw i at (p .connection)) ∙ ap (λ (s : Bool). cond s (lineIn c) unheld) i ∙ sym (line-unmoved X unheld b h u quiet);
       buffer = (rw i at (p .buffer)) ∙ sym (buffer-unmoved X unheld b h quiet);
-      table = (rw i at (p .table)) ∙ sym (table-unmoved X unheld b h (roomOf t) t quiet);
+      table = (rw i at (p .table)) ∙ sym (table-unmoved X unheld b h u t quiet);
       answer = (rw i at (p .answer)) ∙ sym (ap (λ (s : Says (X .Told)). fedCells f s lent) nine ∙ ap (λ (g : Given). given.held g lent) (P .host .refuse m (unplaced 9 nothing)));
     }
 
-    means : Means l b h t lent r (connectionIn c′) b′ t′ after
+    means : Means l b h u t lent r (connectionIn c′) b′ t′ after
     means =
         test.on (isConnection c)
-        (λ i. subst (λ (s : Bool). Means (cond s (lineIn c) unheld) b h t lent r (connectionIn c′) b′ t′ after) (sym i) (by-held i))
-        (λ i. subst (λ (s : Bool). Means (cond s (lineIn c) unheld) b h t lent r (connectionIn c′) b′ t′ after) (sym i) (by-none i))
+        (λ i. subst (λ (s : Bool). Means (cond s (lineIn c) unheld) b h u t lent r (connectionIn c′) b′ t′ after) (sym i) (by-held i))
+        (λ i. subst (λ (s : Bool). Means (cond s (lineIn c) unheld) b h u t lent r (connectionIn c′) b′ t′ after) (sym i) (by-none i))
 
     -- what word and cells say is what the definition says
-    said-is : saidIn tells refusing r after ≡ saysIn X l b h (roomOf t)
+    said-is : saidIn tells refusing r after ≡ saysIn X l b h u
     said-is =
         (λ j. saidIn tells refusing (means .word j) (means .answer j))
-        ∙ said-back (held (lineAfter X l b h (roomOf t)) (bufferAfter X l b h)) lent (answerOf X l b h (roomOf t)) (answer-plain X (P .numbering) c b h (roomOf t) sb sp)
+        ∙ said-back (held (lineAfter X l b h u) (bufferAfter X l b h)) lent (answerOf X l b h u) (answer-plain X (P .numbering) c b h u sb sp)
 
-    fed-said : saidIn tells refusing r after ≡ saysOf X (held (connectionIn c′) b′) (answerOf X l b h (roomOf t))
-    fed-said = said-is ∙ sym (λ j. saysOf X (held (means .line j) (means .buffer j)) (answerOf X l b h (roomOf t)))
+    fed-said : saidIn tells refusing r after ≡ saysOf X (held (connectionIn c′) b′) (answerOf X l b h u)
+    fed-said = said-is ∙ sym (λ j. saysOf X (held (means .line j) (means .buffer j)) (answerOf X l b h u))
 
     fed-word : r ≡ fedWord f (saidIn tells refusing r after)
     fed-word = means .word ∙ ap (fedWord f) (sym said-is)
@@ -148,14 +150,14 @@ module _ {X : Read} {f : X .Told → Given} {tells : List ℕ → X .Told} {refu
     -- cells that hold a connection hold one afterwards, and are its cells
     fed-holds : isConnection c ≡ true → Holds c′
     fed-holds i =
-        let e : c′ ≡ lineCells (lineAfter X (lineIn c) b h (roomOf t)) = rw i at (p .connection) in
-        (ap isConnection e ∙ line-holds (lineAfter X (lineIn c) b h (roomOf t)) (after-plain X (P .numbering) c b h (roomOf t) sb sp i), e ∙ ap lineCells (sym (by-held i .line)))
+        let e : c′ ≡ lineCells (lineAfter X (lineIn c) b h u) = rw i at (p .connection) in
+        (ap isConnection e ∙ line-holds (lineAfter X (lineIn c) b h u) (after-plain X (P .numbering) c b h u sb sp i), e ∙ ap lineCells (sym (by-held i .line)))
 
   -- ---- functions whose calls meet the contract
 
   abbrev Met : HostCall → Type 0
   Met x =
-      Feeds X f (x .lent .connection) (x .lent .buffer) (x .brought) (x .lent .table) (x .lent .answer) (x .word) (x .left .connection) (x .left .buffer) (x .left .table) (x .left .answer)
+      Feeds X f (x .lent .connection) (x .lent .buffer) (x .brought) (x .terms) (x .lent .table) (x .lent .answer) (x .word) (x .left .connection) (x .left .buffer) (x .left .table) (x .left .answer)
       × Small (x .lent .buffer)
       × Small (x .brought .piece)
 
@@ -245,7 +247,7 @@ request-face : Faced requestRead requestGiven requestTold requests.refusedWith
 unfolding requests.request
 request-face = record {
   host = host-request;
-  numbering = λ s n room y e. request-numbered Sixteenth (omega arith) s n room y e;
+  numbering = λ s n x y e. request-numbered Seventeenth (omega arith) s n (x .room) y (sym (request-order.room-alone s (record { limit = n; terms = x })) ∙ e);
   refused-is = λ m y. refl;
   back = request-back;
   apart = request-apart;
@@ -289,7 +291,7 @@ reply-face : Faced replyRead replyGiven replyTold replies.refusedWith
 unfolding replies.replyOf
 reply-face = record {
   host = host-reply;
-  numbering = λ s n room y e. reply-numbered Sixteenth (omega arith) s n room y e;
+  numbering = λ s n x y e. reply-numbered Seventeenth (omega arith) s n x y e;
   refused-is = λ m y. refl;
   back = reply-back;
   apart = reply-apart;
@@ -331,3 +333,8 @@ unfolding replies.replyOf
 ntske-feed-reply-demand =
     by-calls reply-order.reading reply-order.shows (joinedReader reply-by-host) hand-reply.inHand
     (joined-answering replyRead reply-local reply-by-host hand-reply.inHand reply-handing) reply-demand
+
+-- what it accepts was offered, by the lists that the call which answered was lent
+pub ntske-feed-reply-answers : Answers (joinedReader reply-by-host)
+unfolding replies.replyOf
+ntske-feed-reply-answers = answers-by (joinedReader reply-by-host) (joined-answering replyRead reply-local reply-by-host hand-reply.inHand reply-handing)

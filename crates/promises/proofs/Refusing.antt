@@ -116,15 +116,15 @@ module _ (l : List ℕ) where
       (e, only (numberOf (y .error)) (ap ofAnswer e))
 
   -- .. and with the table
-  pub reply-refuses : {m : List ℕ} {n : ℕ} {table table′ : List ℕ} {r : reply-answers.Answer}
-      → Only l (ofAnswer (replies.replyOf m n (roomOf table))) → replies.Reads m n table r table′
+  pub reply-refuses : {m : List ℕ} {n : ℕ} {ps qs table table′ : List ℕ} {r : reply-answers.Answer}
+      → Only l (ofAnswer (replies.replyOf m n (replies.offering ps qs (roomOf table)))) → replies.Reads m n ps qs table r table′
       → (y : Refusal) → r ≡ reply-answer.Refused y → (table′ ≡ table) × In (numberOf (y .error)) l
   unfolding replies.tableAfter
-  reply-refuses {m} {n} {table} only p y h =
-      let e = reply-answer-refuses m (replies.replyOf m n (roomOf table)) only (p .says) y h in
+  reply-refuses {m} {n} {ps} {qs} {table} only p y h =
+      let e = reply-answer-refuses m (replies.replyOf m n (replies.offering ps qs (roomOf table))) only (p .says) y h in
       (p .left ∙ ap (λ (o : judge.Answer replies.Form). over (cells (replies.cookiesOf o)) table) (e .0) ∙ over-none table, e .1)
 
--- ---- the calls that a host links: one word, of which the number is the remainder by 65,536
+-- ---- the calls that a host links: one word, of which the number is the remainder by 256
 
 -- all of l stand in 01's table, and what is given bears no other number
 pub record Tells (l : List ℕ) (g : Given) : Type 0 where
@@ -140,7 +140,7 @@ sure-of {l} {g} t = go g (t .only)
     go (refuses y) only = in-all Table l (t .table) (y .number) (only (y .number) refl) .0
 
 -- .. and one that is not has a number of l ..
-pub number-of : {l : List ℕ} {g : Given} {lent after : List ℕ} {r : ℕ} → Tells l g → Gives g lent r after → (r ≡ 0 → ⊥) → In (r % 65536) l
+pub number-of : {l : List ℕ} {g : Given} {lent after : List ℕ} {r : ℕ} → Tells l g → Gives g lent r after → (r ≡ 0 → ⊥) → In (r % 256) l
 number-of {l} t p h =
     let y = gives-refused p h in
     let i = t .only (y .0 .number) (ap ofGiven (y .1)) in
@@ -148,9 +148,9 @@ number-of {l} t p h =
     rw (y .2, number-in (y .0) (omega (arith, small .1))) i
 
 -- .. and changes no cell, and no output
-pub given-refuses : {l : List ℕ} {g : Given} {lent after : List ℕ} {r : ℕ} → Tells l g → Gives g lent r after → (r ≡ 0 → ⊥) → (after ≡ lent) × In (r % 65536) l
+pub given-refuses : {l : List ℕ} {g : Given} {lent after : List ℕ} {r : ℕ} → Tells l g → Gives g lent r after → (r ≡ 0 → ⊥) → (after ≡ lent) × In (r % 256) l
 given-refuses t p h = (gives-kept p h, number-of t p h)
 
 pub writes-refuses : {l : List ℕ} {a : Count} {b o lent o′ after : List ℕ} {r : ℕ} → Tells l (counted a) → Writes a b o lent r o′ after → (r ≡ 0 → ⊥)
-    → (o′ ≡ o) × (after ≡ lent) × In (r % 65536) l
+    → (o′ ≡ o) × (after ≡ lent) × In (r % 256) l
 writes-refuses t p h = let k = writes-kept p h in (k .0, k .1, number-of t (p .gives) h)

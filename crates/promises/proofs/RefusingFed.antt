@@ -12,8 +12,10 @@ use Rattle.wire.proofs.Over.{over-none}
 use Rattle.nts.specs.Refusal.{numberOf, Refused, toldRefusal}
 use Rattle.nts.specs.declared.Refusal.{Refusal}
 use Rattle.walk.specs.Judge as judge
+use Rattle.walk.specs.Judge.{Terms}
 use Rattle.places.specs.Places.{roomOf}
 use Rattle.request.specs.Request as requests
+use Rattle.request.proofs.Order.{room-alone}
 use Rattle.request.proofs.Numbered.{request-numbered}
 use Rattle.reply.specs.Reply as replies
 use Rattle.reply.proofs.Numbered.{reply-numbered}
@@ -58,7 +60,7 @@ module _ (X : Read) (l : List ℕ) (nine : In 9 l) (sixteen : In 16 l) (reads : 
     answer-refused m none y e = let z : _≡_ {A = ℕ} 0 1 = cc in absurd (omega arith)
     answer-refused m (answers a) y e = let z : refuse y ≡ X .tells m a = cc in ap (λ (x : judge.Answer (X .judging .Q)). answers x) (tells m a y z)
 
-    hands-refuses : {c : Line} {b : List ℕ} {h : Brought} {room : ℕ} {t : List ℕ} {r : Says (X .Told)} {c′ : Line} {b′ t′ : List ℕ} → Hands X c b h room t r c′ b′ t′
+    hands-refuses : {c : Line} {b : List ℕ} {h : Brought} {room : Terms} {t : List ℕ} {r : Says (X .Told)} {c′ : Line} {b′ t′ : List ℕ} → Hands X c b h room t r c′ b′ t′
         → (y : Refused) → r ≡ says (refuse y) → (t′ ≡ t) × In (y .number) (orKept (c .standing) l)
     hands-refuses {c} {b} {h} {room} {t} {r} {c′} {b′} p y e =
         let a = answer-refused (held c′ b′) (answerOf X c b h room) y (sym e ∙ p .answer) in
@@ -68,11 +70,12 @@ module _ (X : Read) (l : List ℕ) (nine : In 9 l) (sixteen : In 16 l) (reads : 
 
 pub request-reads : Numbers requestRead (λ n. In n feedRequestNumbers)
 unfolding requests.request
-request-reads s n room y e = request-numbered (λ n. In n feedRequestNumbers) (refl, refl, refl, refl, refl, refl, refl) s n room y e .one
+request-reads s n x y e =
+    request-numbered (λ n. In n feedRequestNumbers) (refl, refl, refl, refl, refl, refl, refl) s n (x .room) y (sym (room-alone s (record { limit = n; terms = x })) ∙ e) .one
 
 pub reply-reads : Numbers replyRead (λ n. In n feedReplyNumbers)
 unfolding replies.replyOf
-reply-reads s n room y e = reply-numbered (λ n. In n feedReplyNumbers) (refl, refl, refl, refl, refl, refl, refl, refl, refl, refl) s n room y e .one
+reply-reads s n x y e = reply-numbered (λ n. In n feedReplyNumbers) (refl, refl, refl, refl, refl, refl, refl, refl, refl, refl, refl) s n x y e .one
 
 pub feed-request-refuses : (c : Connection) (r : FedRequest) {p : List ℕ} {closed : Bool} {b t b′ t′ : List ℕ} → FeedsRequest c p closed b t r b′ t′
     → (y : Refusal) → r .answer ≡ asked.Refused y → (t′ ≡ t) × In (numberOf (y .error)) (orKept (toldConnection c .standing) feedRequestNumbers)
@@ -80,22 +83,22 @@ unfolding requests.tableAfter
 feed-request-refuses c r f y e =
     hands-refuses requestRead feedRequestNumbers refl refl request-reads requests.refusedWith request-tells (λ r t. over-none t) f (toldRefusal y) (ap toldRequest e)
 
-pub feed-reply-refuses : (c : Connection) (r : FedReply) {p : List ℕ} {closed : Bool} {b t b′ t′ : List ℕ} → FeedsReply c p closed b t r b′ t′
+pub feed-reply-refuses : (c : Connection) (r : FedReply) {p : List ℕ} {closed : Bool} (ps qs : List ℕ) {b t b′ t′ : List ℕ} → FeedsReply c p closed ps qs b t r b′ t′
     → (y : Refusal) → r .answer ≡ replied.Refused y → (t′ ≡ t) × In (numberOf (y .error)) (orKept (toldConnection c .standing) feedReplyNumbers)
 unfolding replies.tableAfter
-feed-reply-refuses c r f y e =
+feed-reply-refuses c r ps qs f y e =
     hands-refuses replyRead feedReplyNumbers refl refl reply-reads replies.refusedWith reply-tells (λ r t. over-none t) f (toldRefusal y) (ap toldReply e)
 
 -- either, by which message is expected
-pub hands-over-refuses : (c : Connection) (w : Expected) (p : List ℕ) (closed : Bool) (b t : List ℕ) (r : Handed) (b′ t′ : List ℕ) → HandsOver c w p closed b t r b′ t′
+pub hands-over-refuses : (c : Connection) (w : Expected) (p : List ℕ) (closed : Bool) (ps qs b t : List ℕ) (r : Handed) (b′ t′ : List ℕ) → HandsOver c w p closed ps qs b t r b′ t′
     → (y : Refusal) → r .answer ≡ answer.Refused y → (t′ ≡ t) × In (numberOf (y .error)) (orKept (toldConnection c .standing) (expectedNumbers w))
-hands-over-refuses c expected.Request p closed b t r b′ t′ f y e = feed-request-refuses c (f .0) (f .1) y (asked-is (f .0 .answer) (ap (λ (h : Handed). h .answer) (sym (f .2)) ∙ e))
+hands-over-refuses c expected.Request p closed ps qs b t r b′ t′ f y e = feed-request-refuses c (f .0) (f .1) y (asked-is (f .0 .answer) (ap (λ (h : Handed). h .answer) (sym (f .2)) ∙ e))
   where
     asked-is : (a : RequestAnswer) → ofRequest a ≡ answer.Refused y → a ≡ asked.Refused y
     asked-is asked.Waiting q = let z : _≡_ {A = ℕ} 0 1 = cc in absurd (omega arith)
     asked-is (asked.Accepted x) q = let z : _≡_ {A = ℕ} 0 1 = cc in absurd (omega arith)
     asked-is (asked.Refused x) q = let z : x ≡ y = cc in ap asked.Refused z
-hands-over-refuses c expected.Reply p closed b t r b′ t′ f y e = feed-reply-refuses c (f .0) (f .1) y (replied-is (f .0 .answer) (ap (λ (h : Handed). h .answer) (sym (f .2)) ∙ e))
+hands-over-refuses c expected.Reply p closed ps qs b t r b′ t′ f y e = feed-reply-refuses c (f .0) ps qs (f .1) y (replied-is (f .0 .answer) (ap (λ (h : Handed). h .answer) (sym (f .2)) ∙ e))
   where
     replied-is : (a : ReplyAnswer) → ofReply a ≡ answer.Refused y → a ≡ replied.Refused y
     replied-is replied.Waiting q = let z : _≡_ {A = ℕ} 0 1 = cc in absurd (omega arith)

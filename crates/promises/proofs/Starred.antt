@@ -8,7 +8,7 @@ use Rattle.walk.specs.Judge.{refused, accepted}
 use Rattle.walk.specs.Judge as judge
 use Rattle.request.specs.Request.{Form}
 use Rattle.request.specs.Messages.{Outcome, outcome, Under, Row, table, Holds}
-use Rattle.request.proofs.Order.{shows, reading}
+use Rattle.request.proofs.Order.{room-alone, shows, reading}
 use Rattle.request.proofs.Messages.{messages}
 use Rattle.promises.specs.Handed.{Shown, inHand}
 use Rattle.promises.specs.Demand3.{Reader}
@@ -29,7 +29,7 @@ module _ (R : Reader Shown) (F : Faithful reading shows R inHand) where
   holds-for : (rows : List Row) → Holds rows → HoldsFor R rows
   holds-for [] h = tt
   holds-for (r ∷ rows) h = (
-    λ c e u. answered c (r .answer) (ap (λ (m : List ℕ). outcome m (reading m (R .under c))) e ∙ h .0 (R .under c .limit) (R .under c .room) u),
+    λ c e u. answered c (r .answer) (ap (λ (m : List ℕ). outcome m (reading m (R .under c))) e ∙ ap (outcome (r .bytes)) (room-alone (r .bytes) (R .under c)) ∙ h .0 (R .under c .limit) (R .under c .terms .room) u),
     holds-for rows (h .1),
   )
 

@@ -11,6 +11,7 @@ use Rattle.layout.specs.Write.{Count, bytes, refused, fitted}
 use Rattle.record.specs.Record.{Told, read, readAt}
 use Rattle.record.specs.Record as rec
 use Rattle.walk.specs.Judge as judge
+use Rattle.walk.specs.Judge.{Terms}
 use Rattle.walk.specs.Finding.{Found}
 use Rattle.request.specs.Request as requests
 use Rattle.request.specs.Request.{request}
@@ -83,8 +84,8 @@ request-given m (judge.accepted (requests.keyExchange p a d)) y e = let z : _≡
 request-given m (judge.accepted (requests.fixedKey u x a p k)) y e = let z : _≡_ {A = ℕ} 0 1 = cc in absurd (omega arith)
 request-given m (judge.accepted (requests.support u p a k)) y e = let z : _≡_ {A = ℕ} 0 1 = cc in absurd (omega arith)
 
-pub reply-tells : (m : List ℕ) (n room : ℕ) → Tells replyNumbers (replyGiven (replies.toldBy m (replyOf m n room)))
-reply-tells m n room = tells (omega arith) (of-reply m (replyOf m n room)) (reply-exactly .only (record { message = m; limit = n; room = room }))
+pub reply-tells : (m : List ℕ) (n : ℕ) (x : Terms) → Tells replyNumbers (replyGiven (replies.toldBy m (replyOf m n x)))
+reply-tells m n x = tells (omega arith) (of-reply m (replyOf m n x)) (reply-exactly .only (record { message = m; limit = n; terms = x }))
 
 pub record-tells : (m : List ℕ) (at : ℕ) → Tells recordNumbers (recordGiven (readAt m at))
 record-tells m at = tells (omega arith) (of-record (readAt m at)) (record-exactly .only (m, at))

@@ -6,7 +6,7 @@ use mathlib.Core.List.{List}
 use denote.Ref.{now}
 use Rattle.nts.specs.Refusal.{toldRefusal}
 use Rattle.nts.specs.declared.Refusal.{Refusal}
-use Rattle.walk.specs.Judge.{Under, bodyIn}
+use Rattle.walk.specs.Judge.{roomFor, Under, bodyIn, readBy}
 use Rattle.places.specs.Places.{roomOf}
 use Rattle.cells.specs.Cells.{word}
 use Rattle.request.specs.Request as request-form
@@ -28,18 +28,22 @@ use Rattle.promises.specs.Demand3.{Reader, defined}
 
 -- ---- the definitions
 
--- `request` and `replyOf`: what is in hand is the bodies, each as the bytes that stand there
+-- `request` (of whose terms a request is asked for the room alone) and `replyOf`: what is in hand is the bodies, each as the bytes that stand there
 abbrev pub request-defined : Reader (request-form.Form (List ℕ))
-request-defined = defined (λ m u. request-form.request m (u .limit) (u .room)) (λ m q. request-form.mapForm (bodyIn m) q)
+request-defined = defined (λ m u. readBy request-form.reader request-form.judging m u) (λ m q. request-form.mapForm (bodyIn m) q)
 
 abbrev pub reply-defined : Reader (reply-form.Form (List ℕ))
-reply-defined = defined (λ m u. reply-form.replyOf m (u .limit) (u .room)) (λ m q. reply-form.mapForm (bodyIn m) q)
+reply-defined = defined (λ m u. reply-form.replyOf m (u .limit) (u .terms)) (λ m q. reply-form.mapForm (bodyIn m) q)
 
 -- ---- request::Request::parse and reply::KeyExchangeResponse::parse
 
 -- a limit, and the room of a lent table
 abbrev pub asked : ℕ → List ℕ → Under
-asked n table = record { limit = n; room = roomOf table }
+asked n table = record { limit = n; terms = roomFor (roomOf table) }
+
+-- .. and, of a reply, the two lists that were offered
+abbrev pub askedReply : ℕ → List ℕ → List ℕ → List ℕ → Under
+askedReply n protocols algorithms table = record { limit = n; terms = reply-form.offering protocols algorithms (roomOf table) }
 
 pub record ParseRequest : Type 1 where
   pub κs : _
@@ -70,14 +74,15 @@ answering C m n table answer table′ = record {
 abbrev pub request-parse : Reader requests.Shown
 request-parse = answering ParseRequest (λ c. now (c .a .0)) (λ c. c .a .1 .0) (λ c. now (c .a .1 .1 .0)) (λ c. c .answer) (λ c. now (c .e .1 .1 .0))
 
+-- .. and of replies
 abbrev pub reply-parse : Reader replies.Shown
 reply-parse = record {
   Call = ParseReply;
   asked = λ c. now (c .a .0);
-  under = λ c. asked (c .a .1 .0) (now (c .a .1 .1 .0));
+  under = λ c. askedReply (c .a .1 .0) (now (c .a .1 .1 .0)) (now (c .a .1 .1 .1 .0)) (now (c .a .1 .1 .1 .1 .0));
   Holds = λ c n. Unit {0};
-  Accepts = λ c s. (x : KeyExchangeResponse) × (c .answer ≡ reply.Accepted x) × (replies.handedOut (now (c .a .0)) (now (c .e .1 .1 .0)) x ≡ s);
-  Refuses = λ c y. (x : Refusal) × (c .answer ≡ reply.Refused x) × (toldRefusal x ≡ y) × (now (c .e .1 .1 .0) ≡ now (c .a .1 .1 .0));
+  Accepts = λ c s. (x : KeyExchangeResponse) × (c .answer ≡ reply.Accepted x) × (replies.handedOut (now (c .a .0)) (now (c .e .1 .1 .1 .1 .0)) x ≡ s);
+  Refuses = λ c y. (x : Refusal) × (c .answer ≡ reply.Refused x) × (toldRefusal x ≡ y) × (now (c .e .1 .1 .1 .1 .0) ≡ now (c .a .1 .1 .1 .1 .0));
 }
 
 -- ---- ntske_read_request and ntske_read_reply, which a host links
@@ -113,13 +118,12 @@ request-read =
     answering-host ReadRequest (λ c. now (c .a .0)) (λ c. c .a .1 .0) (λ c. now (c .a .1 .1 .0)) (λ c. now (c .a .1 .1 .1 .0)) (λ c. c .answer) (λ c. now (c .e .1 .1 .0)) (λ c. now (c .e .1 .1 .1 .0))
 
 -- .. and of replies
-
 abbrev pub reply-read : Reader replies.Shown
 reply-read = record {
   Call = ReadReply;
   asked = λ c. now (c .a .0);
-  under = λ c. asked (c .a .1 .0) (now (c .a .1 .1 .0));
+  under = λ c. askedReply (c .a .1 .0) (now (c .a .1 .1 .0)) (now (c .a .1 .1 .1 .0)) (now (c .a .1 .1 .1 .1 .0));
   Holds = λ c n. Unit {0};
-  Accepts = λ c s. (c .answer ≡ 0) × (replyInHand (now (c .a .0)) (now (c .e .1 .1 .0)) (now (c .e .1 .1 .1 .0)) ≡ s);
-  Refuses = λ c y. (c .answer ≡ word y) × (now (c .e .1 .1 .0) ≡ now (c .a .1 .1 .0)) × (now (c .e .1 .1 .1 .0) ≡ now (c .a .1 .1 .1 .0));
+  Accepts = λ c s. (c .answer ≡ 0) × (replyInHand (now (c .a .0)) (now (c .e .1 .1 .1 .1 .0)) (now (c .e .1 .1 .1 .1 .1 .0)) ≡ s);
+  Refuses = λ c y. (c .answer ≡ word y) × (now (c .e .1 .1 .1 .1 .0) ≡ now (c .a .1 .1 .1 .1 .0)) × (now (c .e .1 .1 .1 .1 .1 .0) ≡ now (c .a .1 .1 .1 .1 .1 .0));
 }

@@ -15,7 +15,7 @@ use Rattle.walk.specs.Table.{known}
 
 -- ---- a reader, as its caller sees it
 
--- over the calls that were made: the message that a call was asked with, and under what, a limit and a table room; what it is that it has room for so many bytes of the
+-- over the calls that were made: the message that a call was asked with, and under what, a limit, a table room and, of a reply, what was offered; what it is that it has room for so many bytes of the
 -- message, which a reader of whole messages always has; what it is that it accepted and that s is in hand; and what it is that it refused, and left what was lent as it was
 pub record Reader (S : Type 0) : Type 2 where
   pub Call : Type 1
@@ -25,7 +25,8 @@ pub record Reader (S : Type 0) : Type 2 where
   pub Accepts : Call → S → Type 0
   pub Refuses : Call → Refused → Type 0
 
--- the call d was asked with the records cs, the end record e and a tail t, under the same limit and table room as the call c, and has room through the end record
+-- the call d was asked with the records cs, the end record e and a tail t, under the same limit and table room as the call c and "with the same offered lists" (02, order 3),
+-- and has room through the end record
 pub record Likewise {S : Type 0} (R : Reader S) (c d : R .Call) (cs : List (List ℕ)) (e t : List ℕ) : Type 0 where
   pub asked : R .asked d ≡ message cs e t
   pub under : R .under d ≡ R .under c

@@ -7,6 +7,7 @@ use mathlib.Core.Bool.{Bool}
 use denote.Ref.{now}
 use Rattle.nts.specs.Refusal.{toldRefusal}
 use Rattle.nts.specs.declared.Refusal.{Refusal}
+use Rattle.walk.specs.Judge.{Terms, roomFor}
 use Rattle.places.specs.Places.{roomOf}
 use Rattle.request.specs.Request as request-form
 use Rattle.reply.specs.Reply as reply-form
@@ -41,12 +42,12 @@ feeder X {C} {A} {Y} {S} made of accepts refuses out = record {
 }
 
 -- a call on a connection and a buffer, by what it was given, said and left
-abbrev pub madeOn : (X : Read) → Connection → List ℕ → Brought → List ℕ → Says (X .Told) → Connection → List ℕ → List ℕ → Made X
-madeOn X c b h t said c′ b′ t′ = record {
+abbrev pub madeOn : (X : Read) → Connection → List ℕ → Brought → Terms → List ℕ → Says (X .Told) → Connection → List ℕ → List ℕ → Made X
+madeOn X c b h u t said c′ b′ t′ = record {
   before = toldConnection c;
   lent = b;
   brought = h;
-  room = roomOf t;
+  terms = u;
   table = t;
   said = said;
   after = toldConnection c′;
@@ -73,15 +74,17 @@ pub record FeedReply : Type 1 where
 abbrev pub request-fed : Feeder requestRead requests.Shown
 request-fed =
     feeder requestRead
-    (λ (c : FeedRequest). madeOn requestRead (c .a .0) (now (c .a .1 .1 .1 .0)) (record { piece = now (c .a .1 .1 .0); closed = c .a .1 .0 }) (now (c .a .1 .1 .1 .1 .0))
+    (λ (c : FeedRequest). madeOn requestRead (c .a .0) (now (c .a .1 .1 .1 .0)) (record { piece = now (c .a .1 .1 .0); closed = c .a .1 .0 })
+    (roomFor (roomOf (now (c .a .1 .1 .1 .1 .0)))) (now (c .a .1 .1 .1 .1 .0))
     (toldRequest (c .answer .answer)) (c .answer .connection) (now (c .e .1 .1 .1 .0)) (now (c .e .1 .1 .1 .1 .0)))
     (λ c. c .answer .answer) asked.Accepted asked.Refused requests.handedOut
 
 abbrev pub reply-fed : Feeder replyRead replies.Shown
 reply-fed =
     feeder replyRead
-    (λ (c : FeedReply). madeOn replyRead (c .a .0) (now (c .a .1 .1 .1 .0)) (record { piece = now (c .a .1 .1 .0); closed = c .a .1 .0 }) (now (c .a .1 .1 .1 .1 .0))
-    (toldReply (c .answer .answer)) (c .answer .connection) (now (c .e .1 .1 .1 .0)) (now (c .e .1 .1 .1 .1 .0)))
+    (λ (c : FeedReply). madeOn replyRead (c .a .0) (now (c .a .1 .1 .1 .1 .1 .0)) (record { piece = now (c .a .1 .1 .0); closed = c .a .1 .0 })
+    (reply-form.offering (now (c .a .1 .1 .1 .0)) (now (c .a .1 .1 .1 .1 .0)) (roomOf (now (c .a .1 .1 .1 .1 .1 .1 .0)))) (now (c .a .1 .1 .1 .1 .1 .1 .0))
+    (toldReply (c .answer .answer)) (c .answer .connection) (now (c .e .1 .1 .1 .1 .1 .0)) (now (c .e .1 .1 .1 .1 .1 .1 .0)))
     (λ c. c .answer .answer) replied.Accepted replied.Refused replies.handedOut
 
 -- ---- pieces::hand, and pieces::hand_over, which updates the connection in place: where a request, or a reply, is expected
@@ -107,6 +110,8 @@ pub record Over : Type 0 where
   pub connection : Connection
   pub piece : List ℕ
   pub closed : Bool
+  pub protocols : List ℕ
+  pub algorithms : List ℕ
   pub buffer : List ℕ
   pub table : List ℕ
   pub handed : Handed
@@ -118,11 +123,13 @@ handed c = record {
   connection = c .a .0;
   piece = now (c .a .1 .1 .1 .0);
   closed = c .a .1 .1 .0;
-  buffer = now (c .a .1 .1 .1 .1 .0);
-  table = now (c .a .1 .1 .1 .1 .1 .0);
+  protocols = now (c .a .1 .1 .1 .1 .0);
+  algorithms = now (c .a .1 .1 .1 .1 .1 .0);
+  buffer = now (c .a .1 .1 .1 .1 .1 .1 .0);
+  table = now (c .a .1 .1 .1 .1 .1 .1 .1 .0);
   handed = c .answer;
-  left = now (c .e .1 .1 .1 .1 .0);
-  filled = now (c .e .1 .1 .1 .1 .1 .0);
+  left = now (c .e .1 .1 .1 .1 .1 .1 .0);
+  filled = now (c .e .1 .1 .1 .1 .1 .1 .1 .0);
 }
 
 abbrev pub handedOver : {w : Expected} → HandOverCall w → Over
@@ -130,17 +137,26 @@ handedOver c = record {
   connection = now (c .a .0);
   piece = now (c .a .1 .1 .1 .0);
   closed = c .a .1 .1 .0;
-  buffer = now (c .a .1 .1 .1 .1 .0);
-  table = now (c .a .1 .1 .1 .1 .1 .0);
+  protocols = now (c .a .1 .1 .1 .1 .0);
+  algorithms = now (c .a .1 .1 .1 .1 .1 .0);
+  buffer = now (c .a .1 .1 .1 .1 .1 .1 .0);
+  table = now (c .a .1 .1 .1 .1 .1 .1 .1 .0);
   handed = record { connection = now (c .e .0); answer = c .answer };
-  left = now (c .e .1 .1 .1 .1 .0);
-  filled = now (c .e .1 .1 .1 .1 .1 .0);
+  left = now (c .e .1 .1 .1 .1 .1 .1 .0);
+  filled = now (c .e .1 .1 .1 .1 .1 .1 .1 .0);
 }
 
--- what is said of a read whose answer is told by `told`
-abbrev pub madeOver : (X : Read) → (Answer → Says (X .Told)) → Over → Made X
-madeOver X told o =
-    madeOn X (o .connection) (o .buffer) (record { piece = o .piece; closed = o .closed }) (o .table) (told (o .handed .answer)) (o .handed .connection) (o .left) (o .filled)
+-- what is said of a read whose answer is told by `told`, and which is lent `lent`
+abbrev pub madeOver : (X : Read) → (Answer → Says (X .Told)) → (Over → Terms) → Over → Made X
+madeOver X told lent o =
+    madeOn X (o .connection) (o .buffer) (record { piece = o .piece; closed = o .closed }) (lent o) (o .table) (told (o .handed .answer)) (o .handed .connection) (o .left) (o .filled)
+
+-- a request is not asked what was offered
+abbrev pub lentRequest : Over → Terms
+lentRequest o = roomFor (roomOf (o .table))
+
+abbrev pub lentReply : Over → Terms
+lentReply o = reply-form.offering (o .protocols) (o .algorithms) (roomOf (o .table))
 
 -- a reply is no answer where a request is expected, nor a request where a reply is
 abbrev pub saidRequest : Answer → Says request-form.Told
@@ -156,10 +172,10 @@ saidReply (answer.Reply x) = says (reply-form.toldReply x)
 saidReply (answer.Refused r) = says (reply-form.refusedWith (toldRefusal r))
 
 abbrev pub requestOver : {C : Type 1} → (C → Over) → Feeder requestRead requests.Shown
-requestOver over = feeder requestRead (λ c. madeOver requestRead saidRequest (over c)) (λ c. over c .handed .answer) answer.Request answer.Refused requests.handedOut
+requestOver over = feeder requestRead (λ c. madeOver requestRead saidRequest lentRequest (over c)) (λ c. over c .handed .answer) answer.Request answer.Refused requests.handedOut
 
 abbrev pub replyOver : {C : Type 1} → (C → Over) → Feeder replyRead replies.Shown
-replyOver over = feeder replyRead (λ c. madeOver replyRead saidReply (over c)) (λ c. over c .handed .answer) answer.Reply answer.Refused replies.handedOut
+replyOver over = feeder replyRead (λ c. madeOver replyRead saidReply lentReply (over c)) (λ c. over c .handed .answer) answer.Reply answer.Refused replies.handedOut
 
 abbrev pub request-handed : Feeder requestRead requests.Shown
 request-handed = requestOver (λ (c : HandCall expected.Request). handed c)

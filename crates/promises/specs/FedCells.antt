@@ -9,6 +9,7 @@ use lib.ListN.{getD}
 use lib.Dec.{eqb}
 use denote.Ref.{now}
 use Rattle.nts.specs.Refusal.{Refused}
+use Rattle.walk.specs.Judge.{Terms, roomFor}
 use Rattle.layout.specs.declared.Part.{Part}
 use Rattle.places.specs.Places.{roomOf}
 use Rattle.request.specs.Request as requests
@@ -16,7 +17,7 @@ use Rattle.reply.specs.Reply as replies
 use Rattle.pieces.specs.Pieces.{Line, started, pending, Brought, Read, Says, nothingYet, says, held}
 use Rattle.pieces.specs.Reads.{requestRead, replyRead}
 use Rattle.cells.specs.Cells.{Given, word, cell}
-use Rattle.feeding.specs.Fed.{lineCells, isConnection, besideIn, lineIn, fedWord, fedCells}
+use Rattle.feeding.specs.Fed.{lineCells, isConnection, numberIn, besideIn, lineIn, fedWord, fedCells}
 use Rattle.feeding.proofs.ntske_feed_request.Reads as feed-request
 use Rattle.feeding.proofs.ntske_close_request.Reads as close-request
 use Rattle.feeding.proofs.ntske_feed_reply.Reads as feed-reply
@@ -37,6 +38,8 @@ pub record Lent : Type 0 where
 
 pub record HostCall : Type 0 where
   pub brought : Brought
+  -- the table's room, and what was offered
+  pub terms : Terms
   pub lent : Lent
   pub word : ℕ
   pub left : Lent
@@ -51,9 +54,9 @@ unheld = record { limit = 0; gathered = 1; begins = 0; met = 0; standing = pendi
 abbrev pub connectionIn : List ℕ → Line
 connectionIn c = cond (isConnection c) (lineIn c) unheld
 
--- the refusal of a word: bits 0 to 15 are its number, bits 16 to 31 the number beside it, and bits 32 to 63 its place
+-- the refusal of a word: bits 0 to 15 are its number with what was not offered, bits 16 to 31 the number beside it, and bits 32 to 63 its place
 abbrev pub refusalIn : ℕ → Refused
-refusalIn w = record { number = w % 65536; beside = besideIn (w % 65536) (w / 65536 % 65536); place = w / 4294967296 }
+refusalIn w = record { number = numberIn (w % 65536); beside = besideIn (w % 65536) (w / 65536 % 65536); place = w / 4294967296 }
 
 -- of the word and the answer's cells: 65,535 says that the read waits, 0 what the cells tell, and every other word a refusal
 abbrev pub saidIn : {T : Type 0} → (List ℕ → T) → (Refused → T) → ℕ → List ℕ → Says T
@@ -89,7 +92,7 @@ hostFeeder X {C} {S} of tells refuses hand = record {
     before = connectionIn (of c .lent .connection);
     lent = of c .lent .buffer;
     brought = of c .brought;
-    room = roomOf (of c .lent .table);
+    terms = of c .terms;
     table = of c .lent .table;
     said = saidIn tells refuses (of c .word) (of c .left .answer);
     after = connectionIn (of c .left .connection);
@@ -131,12 +134,14 @@ pub record HostCloseRequest : Type 1 where
 abbrev pub requestCall : Either HostFeedRequest HostCloseRequest → HostCall
 requestCall (feeds c) = record {
   brought = record { piece = now (c .a .1 .0); closed = false };
+  terms = roomFor (roomOf (now (c .a .1 .1 .1 .0)));
   lent = record { connection = now (c .a .0); buffer = now (c .a .1 .1 .0); table = now (c .a .1 .1 .1 .0); answer = now (c .a .1 .1 .1 .1 .0) };
   word = c .word;
   left = record { connection = now (c .e .0); buffer = now (c .e .1 .1 .0); table = now (c .e .1 .1 .1 .0); answer = now (c .e .1 .1 .1 .1 .0) };
 }
 requestCall (closes c) = record {
   brought = record { piece = []; closed = true };
+  terms = roomFor (roomOf (now (c .a .1 .1 .0)));
   lent = record { connection = now (c .a .0); buffer = now (c .a .1 .0); table = now (c .a .1 .1 .0); answer = now (c .a .1 .1 .1 .0) };
   word = c .word;
   left = record { connection = now (c .e .0); buffer = now (c .e .1 .0); table = now (c .e .1 .1 .0); answer = now (c .e .1 .1 .1 .0) };
@@ -154,7 +159,7 @@ pub record HostFeedReply : Type 1 where
   pub e : _
   pub met : feed-reply.Learnt κs a word e
   pub piece : Bytes (now (a .1 .0))
-  pub buffer : Bytes (now (a .1 .1 .0))
+  pub buffer : Bytes (now (a .1 .1 .1 .1 .0))
 
 pub record HostCloseReply : Type 1 where
   pub κs : _
@@ -162,20 +167,22 @@ pub record HostCloseReply : Type 1 where
   pub word : ℕ
   pub e : _
   pub met : close-reply.Learnt κs a word e
-  pub buffer : Bytes (now (a .1 .0))
+  pub buffer : Bytes (now (a .1 .1 .1 .0))
 
 abbrev pub replyCall : Either HostFeedReply HostCloseReply → HostCall
 replyCall (feeds c) = record {
   brought = record { piece = now (c .a .1 .0); closed = false };
-  lent = record { connection = now (c .a .0); buffer = now (c .a .1 .1 .0); table = now (c .a .1 .1 .1 .0); answer = now (c .a .1 .1 .1 .1 .0) };
+  terms = replies.offering (now (c .a .1 .1 .0)) (now (c .a .1 .1 .1 .0)) (roomOf (now (c .a .1 .1 .1 .1 .1 .0)));
+  lent = record { connection = now (c .a .0); buffer = now (c .a .1 .1 .1 .1 .0); table = now (c .a .1 .1 .1 .1 .1 .0); answer = now (c .a .1 .1 .1 .1 .1 .1 .0) };
   word = c .word;
-  left = record { connection = now (c .e .0); buffer = now (c .e .1 .1 .0); table = now (c .e .1 .1 .1 .0); answer = now (c .e .1 .1 .1 .1 .0) };
+  left = record { connection = now (c .e .0); buffer = now (c .e .1 .1 .1 .1 .0); table = now (c .e .1 .1 .1 .1 .1 .0); answer = now (c .e .1 .1 .1 .1 .1 .1 .0) };
 }
 replyCall (closes c) = record {
   brought = record { piece = []; closed = true };
-  lent = record { connection = now (c .a .0); buffer = now (c .a .1 .0); table = now (c .a .1 .1 .0); answer = now (c .a .1 .1 .1 .0) };
+  terms = replies.offering (now (c .a .1 .0)) (now (c .a .1 .1 .0)) (roomOf (now (c .a .1 .1 .1 .1 .0)));
+  lent = record { connection = now (c .a .0); buffer = now (c .a .1 .1 .1 .0); table = now (c .a .1 .1 .1 .1 .0); answer = now (c .a .1 .1 .1 .1 .1 .0) };
   word = c .word;
-  left = record { connection = now (c .e .0); buffer = now (c .e .1 .0); table = now (c .e .1 .1 .0); answer = now (c .e .1 .1 .1 .0) };
+  left = record { connection = now (c .e .0); buffer = now (c .e .1 .1 .1 .0); table = now (c .e .1 .1 .1 .1 .0); answer = now (c .e .1 .1 .1 .1 .1 .0) };
 }
 
 abbrev pub reply-by-host : Feeder replyRead handed-reply.Shown
@@ -196,7 +203,7 @@ abbrev pub bufferIn : List ℕ → List HostCall → List ℕ
 bufferIn b [] = b
 bufferIn b (x ∷ xs) = x .left .buffer
 
--- "The handler returns record and buffer as it got them", the record as cells; table and answer's cells may be others each time
+-- "The handler returns record and buffer as it got them", the record as cells; table, offered lists and answer's cells may be others each time
 abbrev pub OnCells : ℕ → List ℕ → List HostCall → Type 0
 OnCells n b [] = Unit {0}
 OnCells n b (x ∷ xs) = (x .lent .connection ≡ cellsIn n xs) × (x .lent .buffer ≡ bufferIn b xs) × OnCells n b xs

@@ -4,6 +4,7 @@ pub mod Cells
 pub mod Demand3
 pub mod Called
 pub mod Starred
+pub mod Offered
 pub mod Numbers
 pub mod Pieces
 pub mod Fed

@@ -17,6 +17,7 @@ use Rattle.pieces.specs.Pieces as pieces
 use Rattle.pieces.specs.Pieces.{Standing, pending, accepted, refused}
 use Rattle.pieces.specs.declared.Expected.{Expected}
 use Rattle.pieces.specs.declared.Expected.the-variants as expected
+use Rattle.feeding.specs.Fed.{numberIn}
 use Rattle.plan.specs.Plan as plan
 use Rattle.plan.specs.declared.Plan.{Plan}
 use Rattle.messages.specs.declared.Asked.{Asked}
@@ -24,9 +25,9 @@ use Rattle.cells.specs.Cells as cells
 
 -- ---- exactly these numbers
 
--- a number of the table
+-- a number of the table, or of 02, orders 1 and 3
 abbrev pub Table : ℕ → Type 0
-Table n = (1 ≤ n) × (n ≤ 15)
+Table n = (1 ≤ n) × (n ≤ 17)
 
 -- n is one of them
 abbrev pub In : ℕ → List ℕ → Type 0
@@ -123,9 +124,9 @@ stopNumbers = 1 ∷ 2 ∷ 3 ∷ 4 ∷ []
 abbrev pub decideNumbers : List ℕ
 decideNumbers = 9 ∷ 1 ∷ 2 ∷ 3 ∷ 4 ∷ 5 ∷ 6 ∷ 7 ∷ []
 
--- "The reply reader goes in record order"
+-- "The reply reader goes in record order", and 02, order 3: 17 "for a protocol and then for an algorithm not offered"
 abbrev pub replyNumbers : List ℕ
-replyNumbers = 1 ∷ 2 ∷ 3 ∷ 4 ∷ 7 ∷ 11 ∷ 12 ∷ 13 ∷ 14 ∷ 15 ∷ []
+replyNumbers = 1 ∷ 2 ∷ 3 ∷ 4 ∷ 7 ∷ 11 ∷ 12 ∷ 13 ∷ 14 ∷ 15 ∷ 17 ∷ []
 
 -- a read that is fed in pieces: these of a request or of a reply, 9 "for a connection record that counts more bytes than the buffer or the limit", and 16 (02, order 1) ..
 abbrev pub feedRequestNumbers : List ℕ
@@ -147,7 +148,7 @@ orKept (refused r) l = r .number ∷ l
 
 -- the same of a connection's cells c
 abbrev pub orHeld : List ℕ → List ℕ → List ℕ
-orHeld c l = cond (eqb (cells.cell c 4) 2) (cells.cell c 5 ∷ l) l
+orHeld c l = cond (eqb (cells.cell c 4) 2) (numberIn (cells.cell c 5) ∷ l) l
 
 -- a table to fill: "more names in a key-exchange request or cookies in a reply than the table holds", or more bytes than a cell counts (docs/DECISIONS.md)
 abbrev pub fillNumbers : List ℕ
@@ -190,11 +191,17 @@ keyNumbers = 5 ∷ []
 
 -- ---- what a call is asked, where that is more than two things
 
--- of a reader of whole messages
+-- of a reader of requests
 pub record Read : Type 0 where
   pub message : List ℕ
   pub limit : ℕ
   pub room : ℕ
+
+-- of a reader of replies, with what is lent beside the message
+pub record ReadReply : Type 0 where
+  pub message : List ℕ
+  pub limit : ℕ
+  pub terms : judge.Terms
 
 -- of a decision from a finding
 pub record Decided : Type 0 where
@@ -202,7 +209,7 @@ pub record Decided : Type 0 where
   pub message : List ℕ
   pub room : ℕ
 
--- a read that is fed in pieces and has no answer yet: its connection, the buffer, what is brought, and the room of the table
+-- a read that is fed in pieces and has no answer yet: its connection, the buffer, what is brought, and what is lent beside it
 pub record Piecewise : Type 0 where
   pub limit : ℕ
   pub gathered : ℕ
@@ -210,7 +217,7 @@ pub record Piecewise : Type 0 where
   pub met : ℕ
   pub buffer : List ℕ
   pub brought : pieces.Brought
-  pub room : ℕ
+  pub terms : judge.Terms
 
 abbrev pub lineOf : Piecewise → pieces.Line
 lineOf x = record { limit = x .limit; gathered = x .gathered; begins = x .begins; met = x .met; standing = pending }

@@ -1,4 +1,4 @@
--- A read fed in pieces, over the calls that were made: 02, order 1. What is said here is said of the bytes handed over, joined, and of the whole-message reader;
+-- A read fed in pieces, over the calls that were made: 02, order 1, and order 3 for what was offered. What is said here is said of the bytes handed over, joined, and of the whole-message reader;
 -- nothing of a connection record but what it tells its host. proofs/Pieces.antt proves it of the calls of Fed.antt by their own contracts, for requests and for replies, and
 -- PiecesFace.antt of the calls that a host links (FedCells.antt).
 use Prim.Native.Nat.{ℕ, _+_, _≤_}
@@ -11,7 +11,7 @@ use Rattle.wire.specs.Over.{over}
 use Rattle.nts.specs.Refusal.{Refused}
 use Rattle.record.specs.Record.{size}
 use Rattle.walk.specs.Walk.{Reader, walk}
-use Rattle.walk.specs.Judge.{readBy}
+use Rattle.walk.specs.Judge.{Terms, readBy}
 use Rattle.walk.specs.Found.{placeOf}
 use Rattle.pieces.specs.Pieces.{Line, started, Standing, pending, Brought, Read, Fed, none, answers, refusedAt, byStanding, Says, saysOf, standingBy, filledBy, whole}
 use Rattle.promises.specs.Demand3 as demand
@@ -36,11 +36,11 @@ unfoldable pub undecided : Reader → ℕ → Brought → Bool
 undecided R n h = not (h .closed) && ltb (length (h .piece)) n && not (decided R (h .piece))
 
 -- the answer: 16 at the byte that has no room; none yet; or the whole-message reader's "on the pieces joined"
-unfoldable pub answerOn : (X : Read) → ℕ → ℕ → Brought → ℕ → Fed (X .judging .Q)
-answerOn X n buffer h room =
+unfoldable pub answerOn : (X : Read) → ℕ → ℕ → Brought → Terms → Fed (X .judging .Q)
+answerOn X n buffer h x =
     cond (lacksRoom (X .reader) n buffer (h .piece))
     (refusedAt 16 buffer)
-    (cond (undecided (X .reader) n h) none (answers (readBy (X .reader) (X .judging) (h .piece) (record { limit = n; room = room }))))
+    (cond (undecided (X .reader) n h) none (answers (readBy (X .reader) (X .judging) (h .piece) (record { limit = n; terms = x }))))
 
 -- how many of the joined bytes the buffer begins with: "through the deciding record, or until it is full"; no more than the limit, and as many as have come
 unfoldable pub heldOn : Reader → ℕ → ℕ → List ℕ → ℕ
@@ -53,7 +53,8 @@ pub record Made (X : Read) : Type 0 where
   pub before : Line
   pub lent : List ℕ
   pub brought : Brought
-  pub room : ℕ
+  -- the table's room, and what was offered
+  pub terms : Terms
   pub table : List ℕ
   pub said : Says (X .Told)
   pub after : Line
@@ -81,7 +82,7 @@ abbrev pub bufferIn : {X : Read} → List ℕ → List (Made X) → List ℕ
 bufferIn b [] = b
 bufferIn b (x ∷ xs) = x .left
 
--- "The handler returns record and buffer as it got them"; the table may be another each time
+-- "The handler returns record and buffer as it got them"; the table and the offered lists may be others each time
 abbrev pub OnLine : {X : Read} → ℕ → List ℕ → List (Made X) → Type 0
 OnLine n b [] = Unit {0}
 OnLine n b (x ∷ xs) = (x .before ≡ lineIn n xs) × (x .lent ≡ bufferIn b xs) × OnLine n b xs
@@ -96,23 +97,23 @@ joinedIn (x ∷ xs) = record { piece = joinedIn xs .piece ++ x .brought .piece; 
 -- what a call on a line without an answer leaves, told of the joined bytes h alone
 pub record Told (X : Read) (n : ℕ) (b : List ℕ) (h : Brought) (x : Made X) : Type 0 where
   -- "Unless 16 is given, the answer equals the whole-message reader's on the pieces joined .. however cut"
-  pub answer : x .said ≡ saysOf X (h .piece) (answerOn X n (length b) h (x .room))
-  pub standing : x .after .standing ≡ standingBy (answerOn X n (length b) h (x .room))
+  pub answer : x .said ≡ saysOf X (h .piece) (answerOn X n (length b) h (x .terms))
+  pub standing : x .after .standing ≡ standingBy (answerOn X n (length b) h (x .terms))
   -- "the buffer begins with the joined bytes through the deciding record, or until it is full, and is otherwise untouched"
   pub gathered : x .after .gathered ≡ heldOn (X .reader) n (length b) (h .piece)
   pub buffer : x .left ≡ over (take (heldOn (X .reader) n (length b) (h .piece)) (h .piece)) b
   -- "The table changes only when a message is accepted"
-  pub table : x .filled ≡ filledBy X (answerOn X n (length b) h (x .room)) (x .table)
+  pub table : x .filled ≡ filledBy X (answerOn X n (length b) h (x .terms)) (x .table)
 
--- x is the last call and xs those before it: the room of the table that was lent to the call which gave the answer, or without one to the last
-abbrev pub roomIn : {X : Read} → Made X → List (Made X) → ℕ
-roomIn x [] = x .room
-roomIn x (y ∷ ys) = byStanding (y .after .standing) (x .room) (roomIn y ys) (λ r. roomIn y ys)
+-- x is the last call and xs those before it: what was lent to the call which gave the answer, or without one to the last
+abbrev pub termsIn : {X : Read} → Made X → List (Made X) → Terms
+termsIn x [] = x .terms
+termsIn x (y ∷ ys) = byStanding (y .after .standing) (x .terms) (termsIn y ys) (λ r. termsIn y ys)
 
 -- what any call leaves, told of the joined bytes h of all calls
-pub record Stands (X : Read) (n : ℕ) (b : List ℕ) (h : Brought) (room : ℕ) (x : Made X) : Type 0 where
-  pub answer : x .said ≡ saysOf X (h .piece) (answerOn X n (length b) h room)
-  pub standing : x .after .standing ≡ standingBy (answerOn X n (length b) h room)
+pub record Stands (X : Read) (n : ℕ) (b : List ℕ) (h : Brought) (u : Terms) (x : Made X) : Type 0 where
+  pub answer : x .said ≡ saysOf X (h .piece) (answerOn X n (length b) h u)
+  pub standing : x .after .standing ≡ standingBy (answerOn X n (length b) h u)
   pub gathered : x .after .gathered ≡ heldOn (X .reader) n (length b) (h .piece)
   pub buffer : x .left ≡ over (take (heldOn (X .reader) n (length b) (h .piece)) (h .piece)) b
 
@@ -130,14 +131,14 @@ pub record HoweverCut {X : Read} {S : Type 0} (F : Feeder X S) : Type 1 where
       → Told X n b (joinedIn (madeBy F (x ∷ xs))) (F .made x)
   -- after any calls, of which none but the last closed the line: the same, of the bytes of all of them, joined
   pub ever : (n : ℕ) (b : List ℕ) (xs : List (F .Call)) (x : F .Call) → OnLine n b (madeBy F (x ∷ xs)) → joinedIn (madeBy F xs) .closed ≡ false
-      → Stands X n b (joinedIn (madeBy F (x ∷ xs))) (roomIn (F .made x) (madeBy F xs)) (F .made x)
+      → Stands X n b (joinedIn (madeBy F (x ∷ xs))) (termsIn (F .made x) (madeBy F xs)) (F .made x)
   -- "Once an answer exists, later calls change nothing and give it again"
   pub later : (n : ℕ) (b : List ℕ) (xs : List (F .Call)) (x y : F .Call) → OnLine n b (madeBy F (y ∷ x ∷ xs)) → (F .made x .after .standing ≡ pending → ⊥)
       → Repeated X (F .made x) (F .made y)
   -- no byte handed over after an answer would have changed it, nor the bytes that are held: before the close, the answer is the whole-message reader's on the joined
   -- bytes and any bytes after them
-  pub settled : (n : ℕ) (b j t : List ℕ) (closed : Bool) (room : ℕ) → (answerOn X n (length b) (record { piece = j; closed = false }) room ≡ none → ⊥)
-      → (answerOn X n (length b) (record { piece = j ++ t; closed = closed }) room ≡ answerOn X n (length b) (record { piece = j; closed = false }) room)
+  pub settled : (n : ℕ) (b j t : List ℕ) (closed : Bool) (u : Terms) → (answerOn X n (length b) (record { piece = j; closed = false }) u ≡ none → ⊥)
+      → (answerOn X n (length b) (record { piece = j ++ t; closed = closed }) u ≡ answerOn X n (length b) (record { piece = j; closed = false }) u)
       × (heldOn (X .reader) n (length b) (j ++ t) ≡ heldOn (X .reader) n (length b) j)
 
 -- ---- "Demand 3 holds for the joined bytes, if the buffer has room through the end record"
@@ -151,12 +152,12 @@ pub record Run {X : Read} {S : Type 0} (F : Feeder X S) : Type 1 where
   pub online : OnLine limit buffer (madeBy F (last ∷ before))
   pub waited : lineIn limit (madeBy F before) .standing ≡ pending
 
--- as a reader: its message is the bytes joined, under the limit and with the table that is lent to the last call; what that answers is its answer
+-- as a reader: its message is the bytes joined, under the limit and with the table and the lists that are lent to the last call; what that answers is its answer
 abbrev pub joinedReader : {X : Read} {S : Type 0} → Feeder X S → demand.Reader S
 joinedReader F = record {
   Call = Run F;
   asked = λ c. joinedIn (madeBy F (c .last ∷ c .before)) .piece;
-  under = λ c. record { limit = c .limit; room = F .made (c .last) .room };
+  under = λ c. record { limit = c .limit; terms = F .made (c .last) .terms };
   Holds = λ c n. n ≤ length (c .buffer);
   Accepts = λ c s. F .Accepts (c .last) s;
   Refuses = λ c y. F .Refuses (c .last) y;

@@ -1,4 +1,4 @@
-// Makes one key-exchange reply by a plan's calls, writes it, reads it back and prints what it read.
+// Makes one key-exchange reply by a plan's calls, writes it, reads it back as one who offered what it names, and prints what it read.
 use nts::AeadAlgorithm;
 use nts::NextProtocol;
 use nts::NtsError;
@@ -84,7 +84,15 @@ fn print_reply(message: &[u8], table: &[u16], reply: KeyExchangeResponse) {
 }
 
 fn read(message: &[u8], table: &mut [u16]) {
-    let answer = KeyExchangeResponse::parse(message, LIMIT, table);
+    let protocols = [NextProtocol::NTPV4.0];
+    let algorithms = [AeadAlgorithm::AES_SIV_CMAC_256.0];
+    let answer = KeyExchangeResponse::parse(
+        message,
+        LIMIT,
+        &protocols[0..1],
+        &algorithms[0..1],
+        table,
+    );
     match answer {
         Answer::Accepted(reply) => print_reply(message, table, reply),
         Answer::Refused(refusal) => {

@@ -16,7 +16,7 @@ use Rattle.reading.proofs.reply_cells.Reads as reply-cells
 pub ntske-read-request-same : (κs : _) (a : _) (r r′ : _) (e e′ : _) → ntske-read-request.Learnt κs a r e → ntske-read-request.Learnt κs a r′ e′ → (r ≡ r′) × (now (e .1 .1 .0) ≡ now (e′ .1 .1 .0)) × (now (e .1 .1 .1 .0) ≡ now (e′ .1 .1 .1 .0))
 ntske-read-request-same κs a r r′ e e′ p q = let g = gives-same (p .gives) (q .gives) in (g .0, p .left ∙ sym (q .left), g .1)
 
-pub ntske-read-reply-same : (κs : _) (a : _) (r r′ : _) (e e′ : _) → ntske-read-reply.Learnt κs a r e → ntske-read-reply.Learnt κs a r′ e′ → (r ≡ r′) × (now (e .1 .1 .0) ≡ now (e′ .1 .1 .0)) × (now (e .1 .1 .1 .0) ≡ now (e′ .1 .1 .1 .0))
+pub ntske-read-reply-same : (κs : _) (a : _) (r r′ : _) (e e′ : _) → ntske-read-reply.Learnt κs a r e → ntske-read-reply.Learnt κs a r′ e′ → (r ≡ r′) × (now (e .1 .1 .1 .1 .0) ≡ now (e′ .1 .1 .1 .1 .0)) × (now (e .1 .1 .1 .1 .1 .0) ≡ now (e′ .1 .1 .1 .1 .1 .0))
 ntske-read-reply-same κs a r r′ e e′ p q = let g = gives-same (p .gives) (q .gives) in (g .0, p .left ∙ sym (q .left), g .1)
 
 pub ntske-read-record-same : (κs : _) (a : _) (r r′ : _) (e e′ : _) → ntske-read-record.Learnt κs a r e → ntske-read-record.Learnt κs a r′ e′ → (r ≡ r′) × (now (e .1 .1 .0) ≡ now (e′ .1 .1 .0))

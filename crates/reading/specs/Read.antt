@@ -47,9 +47,9 @@ replyGiven (reply.replyIs p a s t k c) =
     cells (p ∷ a ∷ serverThere s ∷ serverName s .start ∷ serverName s .len ∷ portThere t ∷ portNumber t ∷ flag k ∷ c ∷ [])
 replyGiven (reply.refusedWith r) = refuses r
 
-pub record ReadsReply (m : List ℕ) (n : ℕ) (table lent : List ℕ) (r : ℕ) (table′ after : List ℕ) : Type 0 where
-  pub gives : Gives (replyGiven (reply.toldBy m (reply.replyOf m n (roomOf table)))) lent r after
-  pub left : table′ ≡ reply.tableAfter (reply.replyOf m n (roomOf table)) table
+pub record ReadsReply (m : List ℕ) (n : ℕ) (protocols algorithms table lent : List ℕ) (r : ℕ) (table′ after : List ℕ) : Type 0 where
+  pub gives : Gives (replyGiven (reply.toldBy m (reply.replyOf m n (reply.offering protocols algorithms (roomOf table))))) lent r after
+  pub left : table′ ≡ reply.tableAfter (reply.replyOf m n (reply.offering protocols algorithms (roomOf table))) table
 
 -- ---- one record: eight cells
 

@@ -42,18 +42,21 @@ pub extern "C" fn ntske_read_request(
     }
 }
 
-// Reads a reply in the same way. Answer, nine cells: protocol, algorithm, whether a server is named and start and length of its name, whether
-// there is a port and its number, keep-alive, and how many cookies there are. Refusals: 1 to 4, 7, 11 to 15, at a place.
+// Reads a reply in the same way, to one who offered these protocols and algorithms. Answer, nine cells: protocol, algorithm, whether a server is named and
+// start and length of its name, whether there is a port and its number, keep-alive, and how many cookies there are. Refusals: 1 to 4, 7, 11 to 15, 17, at a
+// place.
 #[no_mangle]
 pub extern "C" fn ntske_read_reply(
     message: &[u8],
     limit: u16,
+    protocols: &[u16],
+    algorithms: &[u16],
     table: &mut [u16],
     answer: &mut [usize; 9],
 ) -> u64
-    ensures { λ r. ⌜ ReadsReply (now (message .entry)) limit (now (table .entry)) (now (answer .entry)) r (now (table .exit)) (now (answer .exit)) ⌝ }
+    ensures { λ r. ⌜ ReadsReply (now (message .entry)) limit (now (protocols .entry)) (now (algorithms .entry)) (now (table .entry)) (now (answer .entry)) r (now (table .exit)) (now (answer .exit)) ⌝ }
 {
-    let read = KeyExchangeResponse::parse(message, limit, table);
+    let read = KeyExchangeResponse::parse(message, limit, protocols, algorithms, table);
     match read {
         reply::Answer::Accepted(x) => {
             *answer = reply_cells(x);

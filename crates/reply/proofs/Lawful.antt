@@ -2,7 +2,7 @@
 -- Assumes nothing.
 use mathlib.Core.Path.{_≡_, refl}
 use mathlib.Core.List.{List, [], _∷_, map}
-use mathlib.Core.Bool.{Bool, true, false, cond, _&&_, _||_}
+use mathlib.Core.Bool.{Bool, true, false, cond, not, _&&_, _||_}
 use Prim.Native.Nat.{ℕ}
 use native.Mathlib.Omega.{arith}
 use lib.ListN.{length, length-map}
@@ -10,7 +10,7 @@ use lib.Dec.{ltb, eqb}
 use Rattle.wire.specs.Bytes.{numberAt}
 use Rattle.nts.specs.Refusal.{Beside, nothing, code}
 use Rattle.walk.specs.Walk.{Act, ends, notes, refuses}
-use Rattle.walk.specs.Judge.{Verdict, no, yes, some}
+use Rattle.walk.specs.Judge.{Verdict, no, yes, Terms, some}
 use Rattle.walk.proofs.Laws.{mapVerdict, Lawful}
 use Rattle.walk.proofs.Verdicts.{some-length, some-map, if-map, first-map}
 use Rattle.reply.specs.Reply.{act, once, reader, mapSent, firstSent, Form, decide, judging}
@@ -38,22 +38,24 @@ sent-map f [] = refl
 sent-map f (x ∷ l) = refl
 
 module _ {A : Type 0} (f : A → List ℕ) where
-  decide-map : (room : ℕ) (l : ℕ → List A) → mapVerdict judging f (decide room f l) ≡ decide room (λ (b : List ℕ). b) (λ k. map f (l k))
+  decide-map : (x : Terms) (l : ℕ → List A) → mapVerdict judging f (decide x f l) ≡ decide x (λ (b : List ℕ). b) (λ k. map f (l k))
   unfolding decide
-  decide-map room l =
+  decide-map x l =
       simp (some-map f, length-map)
       (first-map judging f (l 1) _ _ _ _ refl
       (λ p. if-map judging f (eqb (length (f p)) 0) _ _ _ _ refl
       (first-map judging f (l 4) _ _ _ _ refl
       (λ a. if-map judging f (eqb (length (f a)) 0) _ _ _ _ refl
+      (if-map judging f (not (x .protocols (numberAt (f p) 0))) _ _ _ _ refl
+      (if-map judging f (not (x .algorithms (numberAt (f a) 0))) _ _ _ _ refl
       (if-map judging f (eqb (length (l 5)) 0) _ _ _ _ refl
-      (if-map judging f (ltb room (length (l 5))) _ _ _ _ refl (rw (sent-map f (l 6), sent-map f (l 7)))))))))
+      (if-map judging f (ltb (x .room) (length (l 5))) _ _ _ _ refl (rw (sent-map f (l 6), sent-map f (l 7)))))))))))
 
 -- ---- the laws
 
 pub reply-lawful : Lawful reader judging
 unfolding decide once
 reply-lawful = record {
-  natural = λ u f l. decide-map f (u .room) l;
+  natural = λ u f l. decide-map f (u .terms) l;
   stable = λ u l l′ h n. rw (h 1 refl, h 4 refl, h 5 refl, h 6 refl, h 7 refl, some-length (l 8) (l′ 8) (n 8));
 }

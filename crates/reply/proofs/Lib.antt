@@ -5,5 +5,6 @@ pub mod Apart
 pub mod Same
 pub mod Lawful
 pub mod Order
+pub mod Offered
 pub mod Within
 pub mod Numbered

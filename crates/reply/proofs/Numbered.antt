@@ -1,20 +1,20 @@
--- A reply is refused with 1, 2, 3, 4, 7, 11, 12, 13, 14, 15 and no other number; 11 and 12 alone have a number beside them, of sixteen bits, where the message is bytes.
+-- A reply is refused with 1, 2, 3, 4, 7, 11, 12, 13, 14, 15, 17 and no other number; 11, 12 and 17 alone have a number beside them, of sixteen bits, where the message is bytes.
 -- Assumes nothing.
 use mathlib.Core.Path.{_≡_, refl}
 use mathlib.Core.List.{List}
-use mathlib.Core.Bool.{true, _&&_, _||_}
-use Prim.Native.Nat.{ℕ}
+use mathlib.Core.Bool.{true, not, _&&_, _||_}
+use Prim.Native.Nat.{ℕ, _<_}
 use lib.ListN.{length}
 use lib.Dec.{ltb, eqb}
 use Rattle.wire.specs.Bytes.{numberAt}
 use Rattle.nts.specs.Refusal.{nothing, code, Refused}
 use Rattle.walk.specs.Walk.{notes, Sighting}
-use Rattle.walk.specs.Judge.{bodyIn, refused}
-use Rattle.walk.proofs.Numbered.{coded, Numbered, bare, ActBy, VerdictBy, number-small, act-if, act-by, verdict-if, verdict-first, refused-numbered}
+use Rattle.walk.specs.Judge.{Terms, bodyIn, refused}
+use Rattle.walk.proofs.Numbered.{Small, small-part, coded, Numbered, bare, ActBy, VerdictBy, number-small, act-if, act-by, verdict-if, verdict-first, refused-numbered}
 use Rattle.reply.specs.Reply.{act, reader, decide, judging, replyOf}
 
--- P says of a number that it may be told: what holds of these ten holds of the number of every refusal
-module _ (P : ℕ → Type 0) (p : P 1 × P 2 × P 3 × P 4 × P 7 × P 11 × P 12 × P 13 × P 14 × P 15) where
+-- P says of a number that it may be told: what holds of these eleven holds of the number of every refusal
+module _ (P : ℕ → Type 0) (p : P 1 × P 2 × P 3 × P 4 × P 7 × P 11 × P 12 × P 13 × P 14 × P 15 × P 17) where
   act-numbered : (k : ℕ) (b : List ℕ) → ActBy P b (act k b)
   unfolding act
   act-numbered k b =
@@ -29,17 +29,22 @@ module _ (P : ℕ → Type 0) (p : P 1 × P 2 × P 3 × P 4 × P 7 × P 11 × P 
       told : (n : ℕ) → coded n ≡ true → P n → Numbered P b n (code (numberAt b 0))
       told n f q = record { one = q; fits = f; beside = number-small b }
 
-  decide-numbered : (m : List ℕ) (room : ℕ) (l : ℕ → List Sighting) → VerdictBy P m (decide room (bodyIn m) l)
+  decide-numbered : (m : List ℕ) (x : Terms) (l : ℕ → List Sighting) → VerdictBy P m (decide x (bodyIn m) l)
   unfolding decide
-  decide-numbered m room l =
+  decide-numbered m x l =
       verdict-first P m (l 1) _ _ (bare P m 4 refl (p .3))
       (λ q. verdict-if P m (eqb (length (bodyIn m q)) 0) _ _ (bare P m 13 refl (p .7))
       (verdict-first P m (l 4) _ _ (bare P m 4 refl (p .3))
       (λ a. verdict-if P m (eqb (length (bodyIn m a)) 0) _ _ (bare P m 14 refl (p .8))
+      (verdict-if P m (not (x .protocols (numberAt (bodyIn m q) 0))) _ _ (record { one = p .10; fits = refl; beside = named q })
+      (verdict-if P m (not (x .algorithms (numberAt (bodyIn m a) 0))) _ _ (record { one = p .10; fits = refl; beside = named a })
       (verdict-if P m (eqb (length (l 5)) 0) _ _ (bare P m 15 refl (p .9))
-      (verdict-if P m (ltb room (length (l 5))) _ _ (bare P m 7 refl (p .4)) tt)))))
+      (verdict-if P m (ltb (x .room) (length (l 5))) _ _ (bare P m 7 refl (p .4)) tt)))))))
+    where
+      named : (b : Sighting) → Small m → numberAt (bodyIn m b) 0 < 65536
+      named b h = number-small (bodyIn m b) (small-part m (b .len) (b .start) h)
 
-  pub reply-numbered : (m : List ℕ) (n room : ℕ) (r : Refused) → replyOf m n room ≡ refused r → Numbered P m (r .number) (r .beside)
+  pub reply-numbered : (m : List ℕ) (n : ℕ) (x : Terms) (r : Refused) → replyOf m n x ≡ refused r → Numbered P m (r .number) (r .beside)
   unfolding replyOf
-  reply-numbered m n room r e =
-      refused-numbered P (p .0, p .1, p .3) reader (act-by P (p .2) act act-numbered) judging m (record { limit = n; room = room }) (λ l. decide-numbered m room l) r e
+  reply-numbered m n x r e =
+      refused-numbered P (p .0, p .1, p .3) reader (act-by P (p .2) act act-numbered) judging m (record { limit = n; terms = x }) (λ l. decide-numbered m x l) r e

@@ -2,16 +2,17 @@
 -- kind and its bit clear, show the same bodies; with the bit set it is refusal 3 at that record. And each part of an accepted reply lies inside
 -- the message.
 -- Assumes nothing.
-use mathlib.Core.Path.{_≡_}
+use mathlib.Core.Path.{_≡_, refl}
 use mathlib.Core.List.{List, [], _∷_}
-use mathlib.Core.Bool.{Bool, cond}
+use mathlib.Core.Bool.{Bool, true, false, cond, not}
 use Prim.Native.Nat.{ℕ, _+_, _≤_}
 use lib.ListN.{length}
 use lib.Dec.{ltb, eqb}
 use borrow.Author.Tests.{ltb-false}
 use Rattle.nts.specs.Refusal.{nothing}
 use Rattle.walk.specs.Walk.{Sighting}
-use Rattle.walk.specs.Judge.{Under, Verdict, some, withFirst, ofKind, bodyIn, Answer, accepted}
+use Rattle.wire.specs.Bytes.{numberAt}
+use Rattle.walk.specs.Judge.{Terms, Under, Verdict, some, withFirst, ofKind, bodyIn, Answer, accepted}
 use Rattle.walk.proofs.Demand3.{Ordered, ordered}
 use Rattle.walk.proofs.Noted.{Inside, kind-inside}
 use Rattle.walk.proofs.Verdicts as verdicts
@@ -25,7 +26,7 @@ shows m q = mapForm (bodyIn m) q
 
 -- the definition, under what is asked
 abbrev pub reading : List ℕ → Under → Answer Form
-reading m u = replyOf m (u .limit) (u .room)
+reading m u = replyOf m (u .limit) (u .terms)
 
 pub reply-ordered : Ordered reading shows
 unfolding replyOf
@@ -33,8 +34,9 @@ reply-ordered = ordered act once reply-goes judging reply-lawful
 
 -- ---- what holds of every verdict that accepts, over records whose bodies lie inside N bytes
 
-module _ (N room : ℕ) (l : ℕ → List Sighting) (i : (k : ℕ) → Inside N (l k)) (P : Form Sighting → Type 0)
-    (at-reply : (p a : Sighting) → Inside N (p ∷ a ∷ l 5) → length (l 5) ≤ room → P (reply p a (firstSent (l 6)) (firstSent (l 7)) (some (l 8)) (l 5))) where
+module _ (N : ℕ) (x : Terms) (l : ℕ → List Sighting) (i : (k : ℕ) → Inside N (l k)) (val : Sighting → List ℕ) (P : Form Sighting → Type 0)
+    (at-reply : (p a : Sighting) → Inside N (p ∷ a ∷ l 5) → x .protocols (numberAt (val p) 0) ≡ true → x .algorithms (numberAt (val a) 0) ≡ true → length (l 5) ≤ x .room
+    → P (reply p a (firstSent (l 6)) (firstSent (l 7)) (some (l 8)) (l 5))) where
   abbrev Held : Verdict Form Sighting → Type 0
   Held v = verdicts.Held judging P v
 
@@ -42,18 +44,25 @@ module _ (N room : ℕ) (l : ℕ → List Sighting) (i : (k : ℕ) → Inside N 
   held-if t v w p q = verdicts.held-if judging P t v w (λ e. p) (λ e. q)
 
   held-first : (k : ℕ) (v : Verdict Form Sighting) (f : Sighting → Verdict Form Sighting) → Held v
-      → ((x : Sighting) → x .start + x .len ≤ N → Held (f x)) → Held (withFirst (l k) v f)
+      → ((y : Sighting) → y .start + y .len ≤ N → Held (f y)) → Held (withFirst (l k) v f)
   held-first k v f = verdicts.held-first judging P N (l k) v f (i k)
 
-  pub decide-held : (val : Sighting → List ℕ) → verdicts.Held judging P (decide room val l)
+  -- where it is let in
+  held-let : (t : Bool) (v w : Verdict Form Sighting) → Held v → (t ≡ true → Held w) → Held (cond (not t) v w)
+  held-let true v w p q = q refl
+  held-let false v w p q = p
+
+  pub decide-held : verdicts.Held judging P (decide x val l)
   unfolding decide
-  decide-held val =
+  decide-held =
       held-first 1 _ _ tt
       (λ p hp. held-if (eqb (length (val p)) 0) _ _ tt
       (held-first 4 _ _ tt
       (λ a ha. held-if (eqb (length (val a)) 0) _ _ tt
-      (held-if (eqb (length (l 5)) 0) _ _ tt
-      (verdicts.held-if judging P (ltb room (length (l 5))) _ _ (λ e. tt) (λ e. at-reply p a (hp, (ha, i 5)) (ltb-false room (length (l 5)) e)))))))
+      (held-let (x .protocols (numberAt (val p) 0)) _ _ tt
+      (λ op. held-let (x .algorithms (numberAt (val a) 0)) _ _ tt
+      (λ oa. held-if (eqb (length (l 5)) 0) _ _ tt
+      (verdicts.held-if judging P (ltb (x .room) (length (l 5))) _ _ (λ e. tt) (λ e. at-reply p a (hp, (ha, i 5)) op oa (ltb-false (x .room) (length (l 5)) e)))))))))
 
 -- ---- where the parts of an accepted reply lie
 
@@ -68,10 +77,21 @@ first-inside : (N : ℕ) (l : List Sighting) → Inside N l → InsideSent N (fi
 first-inside N [] i = tt
 first-inside N (x ∷ l) i = i .0
 
-pub accepted-inside : (m : List ℕ) (n room : ℕ) (q : Form Sighting) → replyOf m n room ≡ accepted q → InsideForm (length m) q
-unfolding replyOf
-accepted-inside m n room q =
-    accepted-held judging (InsideForm (length m)) reader m (record { limit = n; room = room }) q
-    (λ st i. let every : (k : ℕ) → Inside (length m) (ofKind k st) = λ k. kind-inside (length m) k st i in
-    decide-held (length m) room (λ k. ofKind k st) every (InsideForm (length m))
-    (λ p a h r. (h .0, h .1 .0, first-inside (length m) (ofKind 6 st) (every 6), first-inside (length m) (ofKind 7 st) (every 7), h .1 .1)) (bodyIn m))
+-- .. and what it names was offered
+abbrev pub Offered : Terms → List ℕ → Form Sighting → Type 0
+Offered x m (reply p a s t k c) = (x .protocols (numberAt (bodyIn m p) 0) ≡ true) × (x .algorithms (numberAt (bodyIn m a) 0) ≡ true)
+
+module _ (m : List ℕ) (n : ℕ) (x : Terms) (q : Form Sighting) where
+  pub accepted-inside : replyOf m n x ≡ accepted q → InsideForm (length m) q
+  unfolding replyOf
+  accepted-inside =
+      accepted-held judging (InsideForm (length m)) reader m (record { limit = n; terms = x }) q
+      (λ st i. let every : (k : ℕ) → Inside (length m) (ofKind k st) = λ k. kind-inside (length m) k st i in
+      decide-held (length m) x (λ k. ofKind k st) every (bodyIn m) (InsideForm (length m))
+      (λ p a h o u r. (h .0, h .1 .0, first-inside (length m) (ofKind 6 st) (every 6), first-inside (length m) (ofKind 7 st) (every 7), h .1 .1)))
+
+  pub accepted-offered : replyOf m n x ≡ accepted q → Offered x m q
+  unfolding replyOf
+  accepted-offered =
+      accepted-held judging (Offered x m) reader m (record { limit = n; terms = x }) q
+      (λ st i. decide-held (length m) x (λ k. ofKind k st) (λ k. kind-inside (length m) k st i) (bodyIn m) (Offered x m) (λ p a h o u r. (o, u)))

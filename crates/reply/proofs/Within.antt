@@ -6,13 +6,14 @@ use Prim.Native.Nat.{ℕ, _≤_}
 use native.Mathlib.Omega.{arith}
 use Rattle.nts.specs.Refusal.{Refused}
 use Rattle.walk.specs.Judge as judge
+use Rattle.walk.specs.Judge.{Terms}
 use Rattle.walk.proofs.Within.{refused-within}
 use Rattle.reply.specs.Reply.{reader, judging, Form, reply, replyOf, refusedWith, toldBy}
 
-pub told-within : (m : List ℕ) (n room : ℕ) (r : Refused) → refusedWith r ≡ toldBy m (replyOf m n room) → r .place ≤ n
+pub told-within : (m : List ℕ) (n : ℕ) (x : Terms) (r : Refused) → refusedWith r ≡ toldBy m (replyOf m n x) → r .place ≤ n
 unfolding replyOf
-told-within m n room r e = go (replyOf m n room) refl e
+told-within m n x r e = go (replyOf m n x) refl e
   where
-    go : (x : judge.Answer Form) → replyOf m n room ≡ x → refusedWith r ≡ toldBy m x → r .place ≤ n
-    go (judge.refused y) h q = let z : y ≡ r = cc in refused-within reader judging m (record { limit = n; room = room }) r (h ∙ ap (λ s. judge.refused s) z)
+    go : (v : judge.Answer Form) → replyOf m n x ≡ v → refusedWith r ≡ toldBy m v → r .place ≤ n
+    go (judge.refused y) h q = let z : y ≡ r = cc in refused-within reader judging m (record { limit = n; terms = x }) r (h ∙ ap (λ s. judge.refused s) z)
     go (judge.accepted (reply p a s t k c)) h q = let z : _≡_ {A = ℕ} 0 1 = cc in absurd (omega arith)

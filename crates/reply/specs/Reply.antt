@@ -1,20 +1,23 @@
--- A reply to a key-exchange request: 01, "Choosing and replying", "The reply reader goes in record order".
+-- A reply to a key-exchange request: 01, "Choosing and replying", "The reply reader goes in record order"; and 02, order 3, "a reply must answer what we asked".
 use Prim.Native.Nat.{ℕ}
 use mathlib.Core.Path.{_≡_}
 use mathlib.Core.List.{List, [], _∷_, map}
-use mathlib.Core.Bool.{Bool, cond, _&&_, _||_}
+use mathlib.Core.Bool.{Bool, cond, not, _&&_, _||_}
+use mathlib.Core.Logic.{_⊎_}
 use lib.ListN.{length, take}
 use lib.Dec.{ltb, eqb}
-use Rattle.wire.specs.Bytes.{numberAt}
+use Rattle.wire.specs.Bytes.{numberAt, partAt}
 use Rattle.wire.specs.Over.{over}
-use Rattle.nts.specs.Refusal.{nothing, code, Refused, toldRefusal}
+use Rattle.nts.specs.Refusal.{nothing, code, protocol, algorithm, Refused, toldRefusal}
+use Rattle.negotiation.specs.Negotiation.{holds}
 use Rattle.layout.specs.declared.Part.{Part}
 use Rattle.walk.specs.Walk.{Act, notes, refuses, Reader, Sighting, walk}
 use Rattle.walk.specs.Judge as judge
-use Rattle.walk.specs.Judge.{Verdict, no, yes, Judge, some, withFirst, bodyIn, partOf, readBy}
+use Rattle.walk.specs.Judge.{Verdict, no, yes, Terms, Judge, some, withFirst, bodyIn, partOf, readBy}
 use Rattle.walk.specs.Table.{tableReader}
 use Rattle.walk.specs.Rules as rule
-use Rattle.walk.specs.Found.{placeOf}
+use Rattle.walk.specs.Found.{placeOf, entryIn}
+use Rattle.walk.specs.Finding.{foundBy}
 use Rattle.places.specs.Places.{cells, roomOf}
 use Rattle.reply.specs.declared.KeyExchangeResponse.{KeyExchangeResponse}
 use Rattle.reply.specs.declared.Server.{Server}
@@ -23,6 +26,7 @@ use Rattle.reply.specs.declared.Port.{Port}
 use Rattle.reply.specs.declared.Port.the-variants as port
 use Rattle.reply.specs.declared.Answer.{Answer}
 use Rattle.reply.specs.declared.Judged.{Judged}
+use Rattle.reply.specs.declared.Named.{Named}
 use Rattle.reply.specs.declared.Answer.the-variants as answer
 
 -- ---- in record order
@@ -87,23 +91,30 @@ pub data Form (A : Type 0) : Type 0 where
 abbrev pub mapForm : {A B : Type 0} → (A → B) → Form A → Form B
 mapForm f (reply p a s t k c) = reply (f p) (f a) (mapSent f s) (mapSent f t) k (map f c)
 
--- no list 1 is 4, empty is 13, no list 4 is 4, empty is 14, no cookie is 15, more cookies than table room is 7
-unfoldable pub decide : ℕ → {A : Type 0} → (A → List ℕ) → (ℕ → List A) → Verdict Form A
-decide room val l =
+-- no list 1 is 4, empty is 13, no list 4 is 4, empty is 14; 17 "for a protocol and then for an algorithm not offered, after 14 and before 15"; no cookie is 15, more
+-- cookies than table room is 7
+unfoldable pub decide : Terms → {A : Type 0} → (A → List ℕ) → (ℕ → List A) → Verdict Form A
+decide x val l =
     withFirst (l 1) (no 4 nothing)
     (λ p. cond (eqb (length (val p)) 0) (no 13 nothing)
     (withFirst (l 4) (no 4 nothing)
     (λ a. cond (eqb (length (val a)) 0) (no 14 nothing)
+    (cond (not (x .protocols (numberAt (val p) 0))) (no 17 (protocol (numberAt (val p) 0)))
+    (cond (not (x .algorithms (numberAt (val a) 0))) (no 17 (algorithm (numberAt (val a) 0)))
     (cond (eqb (length (l 5)) 0) (no 15 nothing)
-    (cond (ltb room (length (l 5))) (no 7 nothing)
-    (yes (reply p a (firstSent (l 6)) (firstSent (l 7)) (some (l 8)) (l 5))))))))
+    (cond (ltb (x .room) (length (l 5))) (no 7 nothing)
+    (yes (reply p a (firstSent (l 6)) (firstSent (l 7)) (some (l 8)) (l 5))))))))))
 
 abbrev pub judging : Judge
-judging = record { Q = Form; mapQ = λ {A} {B} f q. mapForm f q; decide = λ u {A} val l. decide (u .room) val l }
+judging = record { Q = Form; mapQ = λ {A} {B} f q. mapForm f q; decide = λ u {A} val l. decide (u .terms) val l }
 
--- a message m read as if it were cut after n bytes, with a table that has room for so many cookies
-unfoldable pub replyOf : List ℕ → ℕ → ℕ → judge.Answer Form
-replyOf m n room = readBy reader judging m (record { limit = n; room = room })
+-- a message m read as if it were cut after n bytes, under what is lent beside it
+unfoldable pub replyOf : List ℕ → ℕ → Terms → judge.Answer Form
+replyOf m n x = readBy reader judging m (record { limit = n; terms = x })
+
+-- "the two offered lists, as 16-bit cells": a number is among those offered if the list holds it. The table has room for so many cookies
+abbrev pub offering : List ℕ → List ℕ → ℕ → Terms
+offering protocols algorithms room = record { room = room; protocols = holds protocols; algorithms = holds algorithms }
 
 -- ---- what is answered
 
@@ -136,6 +147,14 @@ abbrev pub toldAnswer : Answer → Told
 toldAnswer (answer.Accepted x) = toldReply x
 toldAnswer (answer.Refused r) = refusedWith (toldRefusal r)
 
+-- decided before what was offered is asked: a refusal other than 15 and 7
+abbrev pub Early : Refused → Type 0
+Early r = (r .number ≡ 15 → ⊥) × (r .number ≡ 7 → ⊥)
+
+-- decided after that: 15, 7 or a reply
+abbrev pub Late : Told → Type 0
+Late t = (r : Refused) → t ≡ refusedWith r → (r .number ≡ 15) ⊎ (r .number ≡ 7)
+
 -- ---- the table of cookies
 
 -- only an accepted reply writes any
@@ -146,14 +165,24 @@ cookiesOf (judge.accepted (reply p a s t k c)) = c
 unfoldable pub tableAfter : judge.Answer Form → List ℕ → List ℕ
 tableAfter x table = over (cells (cookiesOf x)) table
 
+-- ---- the numbers that a reply names, whatever was offered
+
+-- in the first body of a kind that the walk met; 0 where there is none
+unfoldable pub namedBy : ℕ → List ℕ → ℕ → ℕ
+namedBy k m n = numberAt (partAt m (entryIn (foundBy reader m n .cells) k .start) (entryIn (foundBy reader m n .cells) k .len)) 0
+
 -- ---- the contracts
 
--- what is answered with room for so many cookies, and the place of the record at which the walk stopped
-pub record Judges (m : List ℕ) (n room : ℕ) (r : Judged) : Type 0 where
-  pub says : toldAnswer (r .answer) ≡ toldBy m (replyOf m n room)
+-- what is answered under x, and the place of the record at which the walk stopped
+pub record Judges (m : List ℕ) (n : ℕ) (x : Terms) (r : Judged) : Type 0 where
+  pub says : toldAnswer (r .answer) ≡ toldBy m (replyOf m n x)
   pub stopped : r .place ≡ placeOf (walk reader [] 0 0 (take n m))
 
--- what the reader answers, and the table afterwards
-pub record Reads (m : List ℕ) (n : ℕ) (table : List ℕ) (r : Answer) (table′ : List ℕ) : Type 0 where
-  pub says : toldAnswer r ≡ toldBy m (replyOf m n (roomOf table))
-  pub left : table′ ≡ tableAfter (replyOf m n (roomOf table)) table
+-- what the reader answers to one that offered these protocols and algorithms, and the table afterwards
+pub record Reads (m : List ℕ) (n : ℕ) (protocols algorithms table : List ℕ) (r : Answer) (table′ : List ℕ) : Type 0 where
+  pub says : toldAnswer r ≡ toldBy m (replyOf m n (offering protocols algorithms (roomOf table)))
+  pub left : table′ ≡ tableAfter (replyOf m n (offering protocols algorithms (roomOf table))) table
+
+-- the two numbers that a reply names
+abbrev pub Names : List ℕ → ℕ → Named → Type 0
+Names m n r = (r .protocol .0 ≡ namedBy 1 m n) × (r .algorithm .0 ≡ namedBy 4 m n)

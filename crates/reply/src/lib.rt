@@ -1,5 +1,5 @@
-// Reading a reply to a key-exchange request (after the crate's KeyExchangeResponse::parse, by document 01's rules): its table for the walk, the
-// decision over what the walk found, and its answers.
+// Reading a reply to a key-exchange request (after the crate's KeyExchangeResponse::parse, by the rules of documents 01 and 02): its table for the walk,
+// the decision over what the walk found and what was offered, and its answers.
 use nts::AeadAlgorithm;
 use nts::NextProtocol;
 use nts::NtsError;
@@ -22,8 +22,8 @@ ghost use Rattle.walk.specs.Found.{toldIn};
 ghost use Rattle.walk.specs.Finding.{foundBy, asFinding, toldFinding};
 ghost use Rattle.walk.specs.Code.{Fits};
 ghost use Rattle.reply.specs.Reply as reply;
-ghost use Rattle.reply.specs.Reply.{rules, reader, toldServer, toldPort, toldBy, toldAnswer, Judges, Reads};
-ghost use Rattle.reply.specs.Code.{numberIn, sentIn, acceptedIn, cookiesIn};
+ghost use Rattle.reply.specs.Reply.{rules, reader, offering, toldServer, toldPort, toldBy, toldAnswer, Judges, Reads, Names};
+ghost use Rattle.reply.specs.Code.{numberIn, sentIn, acceptedIn, cookiesFor, cookiesIn};
 
 // The server's name, where one was sent: a part of the message.
 pub enum Server {
@@ -58,6 +58,12 @@ pub struct Judged {
     pub place: usize,
 }
 
+// The numbers that a reply names, whatever was offered.
+pub struct Named {
+    pub protocol: NextProtocol,
+    pub algorithm: AeadAlgorithm,
+}
+
 // What is done with a record, by its kind.
 pub const RULES: [u8; 15] = [
     ENDING, // 0 end
@@ -78,12 +84,24 @@ pub const RULES: [u8; 15] = [
 ];
 
 impl KeyExchangeResponse {
-    // Reads a reply as if the message were cut after `limit` bytes. The cookies of an accepted reply go into the table, two cells a cookie, start
-    // and length, in message order; nothing else changes a cell.
-    pub fn parse(message: &[u8], limit: u16, table: &mut [u16]) -> Answer
-        ensures { λ r. ⌜ Reads (now (message .entry)) limit (now (table .entry)) r (now (table .exit)) ⌝ }
+    // Reads a reply as if the message were cut after `limit` bytes. The protocol and the algorithm that it names must be among those that were offered.
+    // The cookies of an accepted reply go into the table, two cells a cookie, start and length, in message order; nothing else changes a cell.
+    pub fn parse(
+        message: &[u8],
+        limit: u16,
+        protocols: &[u16],
+        algorithms: &[u16],
+        table: &mut [u16],
+    ) -> Answer
+        ensures { λ r. ⌜ Reads (now (message .entry)) limit (now (protocols .entry)) (now (algorithms .entry)) (now (table .entry)) r (now (table .exit)) ⌝ }
     {
-        let judged = KeyExchangeResponse::judge(message, limit, table.len() / 2);
+        let judged = KeyExchangeResponse::judge(
+            message,
+            limit,
+            protocols,
+            algorithms,
+            table.len() / 2,
+        );
         let answer = judged.answer;
         let place = judged.place;
         let count = cookies_in(answer);
@@ -95,8 +113,14 @@ impl KeyExchangeResponse {
     }
 
     // What `parse` answers with room for so many cookies, and where the walk stopped.
-    pub fn judge(message: &[u8], limit: u16, room: usize) -> Judged
-        ensures { λ r. ⌜ Judges (now (message .entry)) limit room r ⌝ }
+    pub fn judge(
+        message: &[u8],
+        limit: u16,
+        protocols: &[u16],
+        algorithms: &[u16],
+        room: usize,
+    ) -> Judged
+        ensures { λ r. ⌜ Judges (now (message .entry)) limit (offering (now (protocols .entry)) (now (algorithms .entry)) room) r ⌝ }
     {
         let mut cells = [0u16; 45];
         let walked = walk_into(message, limit, &mut cells);
@@ -104,13 +128,31 @@ impl KeyExchangeResponse {
         let stop = walked.stop;
         match stop {
             Stop::End => Judged {
-                answer: decide(message, &cells, place, room),
+                answer: decide(message, &cells, protocols, algorithms, place, room),
                 place,
             },
             Stop::Refused(error) => Judged {
                 answer: refused(error, place),
                 place,
             },
+        }
+    }
+
+    // The protocol and the algorithm that a reply names, 0 where it names none. Whether it is accepted is not asked.
+    pub fn named(message: &[u8], limit: u16) -> Named
+        ensures { λ r. ⌜ Names (now (message .entry)) limit r ⌝ }
+    {
+        let mut cells = [0u16; 45];
+        walk_into(message, limit, &mut cells);
+        Named {
+            protocol: NextProtocol(number_in(
+                message,
+                walk::found(&cells, NtsRecord::NEXT_PROTOCOL),
+            )),
+            algorithm: AeadAlgorithm(number_in(
+                message,
+                walk::found(&cells, NtsRecord::AEAD_ALGORITHM),
+            )),
         }
     }
 }
@@ -129,25 +171,54 @@ fn refused(error: NtsError, place: usize) -> Answer
     Answer::Refused(Refusal { error, place })
 }
 
-// The decision after the end record, whose place a refusal bears: the protocol, the algorithm, and then the cookies.
-fn decide(message: &[u8], cells: &[u16; 45], place: usize, room: usize) -> Answer
+// The decision after the end record, whose place a refusal bears: the two lists, and then what they name.
+fn decide(
+    message: &[u8],
+    cells: &[u16; 45],
+    protocols: &[u16],
+    algorithms: &[u16],
+    place: usize,
+    room: usize,
+) -> Answer
     requires { ⌜ Fits rules (length (now message)) (now cells) ⌝ }
-    ensures { λ r. ⌜ toldAnswer r ≡ toldBy (now (message .entry)) (placed place (reply.decide room (bodyIn (now (message .entry))) (toldIn (now (cells .entry))))) ⌝ }
+    ensures { λ r. ⌜ toldAnswer r ≡ toldBy (now (message .entry)) (placed place (reply.decide (offering (now (protocols .entry)) (now (algorithms .entry)) room) (bodyIn (now (message .entry))) (toldIn (now (cells .entry))))) ⌝ }
 {
-    let protocols = walk::found(cells, NtsRecord::NEXT_PROTOCOL);
-    if protocols.count == 0 {
+    let first = walk::found(cells, NtsRecord::NEXT_PROTOCOL);
+    if first.count == 0 {
         return refused(NtsError::Invalid, place);
     }
-    if protocols.len == 0 {
+    if first.len == 0 {
         return refused(NtsError::NoOverlappingProtocol, place);
     }
-    let algorithms = walk::found(cells, NtsRecord::AEAD_ALGORITHM);
-    if algorithms.count == 0 {
+    let second = walk::found(cells, NtsRecord::AEAD_ALGORITHM);
+    if second.count == 0 {
         return refused(NtsError::Invalid, place);
     }
-    if algorithms.len == 0 {
+    if second.len == 0 {
         return refused(NtsError::NoOverlappingAlgorithm, place);
     }
+    let protocol = NextProtocol(number_in(message, first));
+    let algorithm = AeadAlgorithm(number_in(message, second));
+    if !negotiation::has(protocols, protocol.0) {
+        return refused(NtsError::ProtocolNotOffered(protocol), place);
+    }
+    if !negotiation::has(algorithms, algorithm.0) {
+        return refused(NtsError::AeadNotOffered(algorithm), place);
+    }
+    with_cookies(message, cells, protocol, algorithm, place, room)
+}
+
+// Both numbers were offered: then the cookies.
+fn with_cookies(
+    message: &[u8],
+    cells: &[u16; 45],
+    protocol: NextProtocol,
+    algorithm: AeadAlgorithm,
+    place: usize,
+    room: usize,
+) -> Answer
+    ensures { λ r. ⌜ toldAnswer r ≡ cookiesFor room place (now (message .entry)) (now (cells .entry)) (protocol .0) (algorithm .0) ⌝ }
+{
     let cookies = walk::found(cells, NtsRecord::NEW_COOKIE).count as usize;
     if cookies == 0 {
         return refused(NtsError::NoCookie, place);
@@ -155,21 +226,19 @@ fn decide(message: &[u8], cells: &[u16; 45], place: usize, room: usize) -> Answe
     if room < cookies {
         return refused(NtsError::TableFull, place);
     }
-    accepted(message, cells, protocols, algorithms, cookies)
+    accepted(message, cells, protocol, algorithm, cookies)
 }
 
-// The accepted answer: the numbers in the two lists, and what else was found.
+// The accepted answer: the two numbers, and what else was found.
 fn accepted(
     message: &[u8],
     cells: &[u16; 45],
-    protocols: Seen,
-    algorithms: Seen,
+    protocol: NextProtocol,
+    algorithm: AeadAlgorithm,
     cookies: usize,
 ) -> Answer
-    ensures { λ r. ⌜ toldAnswer r ≡ acceptedIn (now (message .entry)) (now (cells .entry)) protocols algorithms cookies ⌝ }
+    ensures { λ r. ⌜ toldAnswer r ≡ acceptedIn (now (message .entry)) (now (cells .entry)) (protocol .0) (algorithm .0) cookies ⌝ }
 {
-    let protocol = NextProtocol(number_in(message, protocols));
-    let algorithm = AeadAlgorithm(number_in(message, algorithms));
     let server = server_of(walk::found(cells, NtsRecord::SERVER));
     let port = port_of(message, walk::found(cells, NtsRecord::PORT));
     let keep_alive = walk::is_there(cells, NtsRecord::KEEP_ALIVE);

@@ -10,7 +10,7 @@ use Rattle.nts.specs.declared.NtsError.{NtsError}
 use Rattle.layout.specs.Table.{rowOf, shapeOf, isUnknown}
 use Rattle.walk.specs.Walk.{walk}
 use Rattle.walk.specs.Judge as judge
-use Rattle.walk.specs.Judge.{Under, ofKind, bodyIn, placed}
+use Rattle.walk.specs.Judge.{roomFor, Under, ofKind, bodyIn, placed}
 use Rattle.walk.specs.Table.{known}
 use Rattle.walk.specs.Found.{toldIn, placeOf}
 use Rattle.walk.specs.Finding.{Found, foundBy, sameFound, toldFinding}
@@ -47,11 +47,11 @@ module _ (m : List ℕ) (f : Finding) (h : toldFinding f ≡ foundBy reader m (f
   place-inside = stop-inside reader m n (f .place) place-is
 
   pub ended-fit : f .stop ≡ stop.End → Fits rules (length m) (f .cells)
-  ended-fit = ended-fits rules reader table-reader m (record { limit = n; room = 0 }) f h
+  ended-fit = ended-fits rules reader table-reader m (record { limit = n; terms = roomFor 0 }) f h
 
   module _ (room : ℕ) where
     abbrev u : Under
-    u = record { limit = n; room = room }
+    u = record { limit = n; terms = roomFor room }
 
     pub decided-refused : (e : NtsError) → f .stop ≡ stop.Refused e → (x : Answer) → x ≡ answer.Refused (record { error = e; place = f .place }) → toldAnswer x ≡ toldBy m (request m n room)
     unfolding request
@@ -90,7 +90,7 @@ module _ (m : List ℕ) (n : ℕ) (t : List ℕ) (x : Answer) (says : toldAnswer
         record {
           says = says;
           left =
-              all-stored reader 13 always refl judging namesOf (λ r. refl) m n t
+              all-stored reader 13 always refl judging namesOf (λ r. refl) m n (roomFor (roomOf t)) t
               (λ st i. decide-held (length m) (roomOf t) (λ k. ofKind k st) (λ k. kind-inside (length m) k st i) _ (λ u b p a k z. absurd (z refl)) (λ u y a p b k z. absurd (z refl)) (λ p a b q z. (refl, q)) (bodyIn m))
               count counted h l place at r t′ f;
         }

@@ -63,6 +63,6 @@ module _ {A : Type 0} (f : A → List ℕ) where
 pub request-lawful : Lawful reader judging
 unfolding decide once
 request-lawful = record {
-  natural = λ u f l. decide-map f (u .room) l;
+  natural = λ u f l. decide-map f (u .terms .room) l;
   stable = λ u l l′ h n. rw (h 1 refl, h 4 refl, h 9 refl, h 10 refl, h 12 refl, h 13 refl, h 14 refl, some-length (l 8) (l′ 8) (n 8));
 }

@@ -14,7 +14,7 @@ use Rattle.utf8.specs.Utf8.{tail, rows, fits, charSize, octets, wellFormed}
 use Rattle.layout.specs.Table.{rowOf, shapeOf, isUnknown}
 use Rattle.record.specs.Record.{kindOf, criticalOf, kind, critical, size, there, short, uneven, notNumber, notHalves, notUtf8, firstOf, notName, faultOf}
 use Rattle.walk.specs.Walk.{Outcome, stopped, ended, faultIn, actIn, has, meet, judge, step, walk}
-use Rattle.walk.specs.Judge.{finish, readBy}
+use Rattle.walk.specs.Judge.{roomFor, finish, readBy}
 use Rattle.walk.specs.Table.{known, actBy}
 use Rattle.request.specs.Request.{act, once, reader, judging, decide, request}
 use Rattle.request.specs.Messages as row
@@ -22,7 +22,7 @@ use Rattle.request.specs.Messages.{outcome, Holds, table}
 
 -- what is decided does not ask for the limit
 finish-any : (m : List ℕ) (n k room : ℕ) (o : Outcome)
-    → finish judging (record { limit = n; room = room }) m o ≡ finish judging (record { limit = k; room = room }) m o
+    → finish judging (record { limit = n; terms = roomFor room }) m o ≡ finish judging (record { limit = k; terms = roomFor room }) m o
 unfolding finish
 finish-any m n k room (stopped r) = refl
 finish-any m n k room (ended at next st) = refl

@@ -10,7 +10,7 @@ use Rattle.wire.specs.Bytes.{numberAt}
 use Rattle.nts.specs.Refusal.{nothing, Refused}
 use Rattle.nts.specs.Algorithm.{Described, known, unknown, describe}
 use Rattle.walk.specs.Walk.{passes, notes, Sighting, stopped, walk}
-use Rattle.walk.specs.Judge.{some, bodyIn, refused}
+use Rattle.walk.specs.Judge.{roomFor, some, bodyIn, refused}
 use Rattle.walk.proofs.Numbered.{Numbered, bare, ActBy, VerdictBy, small-part, number-small, act-if, act-by, verdict-if, verdict-first, stopped-numbered, refused-numbered}
 use Rattle.request.specs.Request.{act, reader, Form, keyed, fixedBy, decide, judging, request}
 
@@ -52,4 +52,4 @@ module _ (P : ℕ → Type 0) (p : P 1 × P 2 × P 3 × P 4 × P 5 × P 6 × P 7
   pub request-numbered : (m : List ℕ) (n room : ℕ) (r : Refused) → request m n room ≡ refused r → Numbered P m (r .number) (r .beside)
   unfolding request
   request-numbered m n room r e =
-      refused-numbered P (p .0, p .1, p .3) reader (act-by P (p .2) act (act-numbered P (p .3))) judging m (record { limit = n; room = room }) (λ l. decide-numbered m room l) r e
+      refused-numbered P (p .0, p .1, p .3) reader (act-by P (p .2) act (act-numbered P (p .3))) judging m (record { limit = n; terms = roomFor room }) (λ l. decide-numbered m room l) r e

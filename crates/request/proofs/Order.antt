@@ -2,18 +2,18 @@
 -- unknown kind and its bit clear, show the same bodies; with the bit set it is refusal 3 at that record. And each part of an accepted request
 -- lies inside the message.
 -- Assumes nothing.
-use mathlib.Core.Path.{_≡_}
+use mathlib.Core.Path.{_≡_, refl}
 use mathlib.Core.List.{List, [], _∷_}
 use mathlib.Core.Bool.{Bool, true, false, cond, _&&_, _||_}
 use Prim.Native.Nat.{ℕ, _+_, _≤_}
-use lib.ListN.{length}
+use lib.ListN.{length, take}
 use lib.Dec.{ltb, eqb}
 use borrow.Author.Tests.{ltb-false}
 use Rattle.nts.specs.Refusal.{nothing}
 use Rattle.nts.specs.Algorithm.{Described, unknown}
 use Rattle.nts.specs.Algorithm as algorithm
-use Rattle.walk.specs.Walk.{Sighting}
-use Rattle.walk.specs.Judge.{Under, Verdict, no, yes, some, withFirst, ofKind, bodyIn, Answer, accepted}
+use Rattle.walk.specs.Walk.{Sighting, Outcome, stopped, ended, walk}
+use Rattle.walk.specs.Judge.{Under, Verdict, no, yes, some, withFirst, ofKind, bodyIn, Answer, accepted, finish, readBy, roomFor}
 use Rattle.walk.proofs.Demand3.{Ordered, ordered}
 use Rattle.walk.proofs.Noted.{Inside, kind-inside}
 use Rattle.walk.proofs.Verdicts as verdicts
@@ -27,10 +27,18 @@ shows m q = mapForm (bodyIn m) q
 
 -- the definition, under what is asked
 abbrev pub reading : List ℕ → Under → Answer Form
-reading m u = request m (u .limit) (u .room)
+reading m u = readBy reader judging m u
+
+-- of what is lent it is asked for the room alone
+pub room-alone : (m : List ℕ) (u : Under) → readBy reader judging m u ≡ request m (u .limit) (u .terms .room)
+unfolding request readBy finish
+room-alone m u = go (walk reader [] 0 0 (take (u .limit) m))
+  where
+    go : (o : Outcome) → finish judging u m o ≡ finish judging (record { limit = u .limit; terms = roomFor (u .terms .room) }) m o
+    go (stopped r) = refl
+    go (ended at next st) = refl
 
 pub request-ordered : Ordered reading shows
-unfolding request
 request-ordered = ordered act once request-goes judging request-lawful
 
 -- ---- what holds of every verdict that accepts, over records whose bodies lie inside N bytes
@@ -82,5 +90,5 @@ InsideForm N (support u p a k) = Inside N (u ∷ [])
 pub accepted-inside : (m : List ℕ) (n room : ℕ) (q : Form Sighting) → request m n room ≡ accepted q → InsideForm (length m) q
 unfolding request
 accepted-inside m n room q =
-    accepted-held judging (InsideForm (length m)) reader m (record { limit = n; room = room }) q
+    accepted-held judging (InsideForm (length m)) reader m (record { limit = n; terms = roomFor room }) q
     (λ st i. decide-held (length m) room (λ k. ofKind k st) (λ k. kind-inside (length m) k st i) (InsideForm (length m)) (λ u h p a k. h) (λ u x a p h k. h) (λ p a h r. h) (bodyIn m))

@@ -6,6 +6,7 @@ use Prim.Native.Nat.{ℕ, _≤_}
 use native.Mathlib.Omega.{arith}
 use Rattle.nts.specs.Refusal.{Refused}
 use Rattle.walk.specs.Judge as judge
+use Rattle.walk.specs.Judge.{roomFor}
 use Rattle.walk.proofs.Within.{refused-within}
 use Rattle.request.specs.Request.{reader, judging, Form, keyExchange, fixedKey, support, request, refusedWith, toldBy}
 
@@ -14,7 +15,7 @@ unfolding request
 told-within m n room r e = go (request m n room) refl e
   where
     go : (x : judge.Answer Form) → request m n room ≡ x → refusedWith r ≡ toldBy m x → r .place ≤ n
-    go (judge.refused y) h q = let z : y ≡ r = cc in refused-within reader judging m (record { limit = n; room = room }) r (h ∙ ap (λ s. judge.refused s) z)
+    go (judge.refused y) h q = let z : y ≡ r = cc in refused-within reader judging m (record { limit = n; terms = roomFor room }) r (h ∙ ap (λ s. judge.refused s) z)
     go (judge.accepted (keyExchange p a d)) h q = let z : _≡_ {A = ℕ} 0 1 = cc in absurd (omega arith)
     go (judge.accepted (fixedKey u x a p k)) h q = let z : _≡_ {A = ℕ} 0 1 = cc in absurd (omega arith)
     go (judge.accepted (support u p a k)) h q = let z : _≡_ {A = ℕ} 0 1 = cc in absurd (omega arith)

@@ -12,7 +12,7 @@ use Rattle.nts.specs.Algorithm.{Described, known, unknown, describe}
 use Rattle.layout.specs.declared.Part.{Part}
 use Rattle.walk.specs.Walk.{Act, passes, notes, refuses, Reader, Sighting}
 use Rattle.walk.specs.Judge as judge
-use Rattle.walk.specs.Judge.{Verdict, no, yes, Judge, some, withFirst, bodyIn, partOf, readBy}
+use Rattle.walk.specs.Judge.{Verdict, no, yes, roomFor, Judge, some, withFirst, bodyIn, partOf, readBy}
 use Rattle.walk.specs.Table.{tableReader}
 use Rattle.walk.specs.Rules as rule
 use Rattle.walk.specs.Finding.{Found, foundBy, sameFound, toldFinding}
@@ -113,11 +113,11 @@ decide room val l =
     (withFirst (l 12) (exchangeBy room l) (λ x. keysBy val l x))
 
 abbrev pub judging : Judge
-judging = record { Q = Form; mapQ = λ {A} {B} f q. mapForm f q; decide = λ u {A} val l. decide (u .room) val l }
+judging = record { Q = Form; mapQ = λ {A} {B} f q. mapForm f q; decide = λ u {A} val l. decide (u .terms .room) val l }
 
 -- a message m read as if it were cut after n bytes, with a table that has room for so many names
 unfoldable pub request : List ℕ → ℕ → ℕ → judge.Answer Form
-request m n room = readBy reader judging m (record { limit = n; room = room })
+request m n room = readBy reader judging m (record { limit = n; terms = roomFor room })
 
 -- ---- what is answered
 

@@ -1,9 +1,9 @@
--- A reader refuses with no other numbers than 1, 2, 3, 4 and those of its acts and of its decision; 5, 11 and 12 have a number beside them, and no other has; and that
+-- A reader refuses with no other numbers than 1, 2, 3, 4 and those of its acts and of its decision; 5, 11, 12 and 17 have a number beside them, and no other has; and that
 -- has sixteen bits, where the message is bytes. A fault is 1 or 2, an unknown record with its bit set is 3, and a record that may stand once and stands there twice is 4.
 -- Assumes nothing.
-use mathlib.Core.Path.{_≡_, refl}
+use mathlib.Core.Path.{_≡_, refl, sym}
 use mathlib.Core.List.{List, [], _∷_}
-use mathlib.Core.Bool.{Bool, true, false, cond, _&&_, _||_}
+use mathlib.Core.Bool.{Bool, true, false, cond, not, _&&_, _||_, true≢false}
 use Prim.Native.Nat.{ℕ, zero, suc, _+_, _*_, _/_, _%_, _<_, _≤_}
 use native.Mathlib.Omega.{arith}
 use borrow.Author.Tests.{leb-true, ltb-true, ltb-false}
@@ -11,7 +11,7 @@ use lib.ListN.{length, getD, take, drop, length-take, List·getD-eq-default}
 use lib.Seq.{getD-take, getD-drop}
 use lib.Dec.{leb, ltb, eqb}
 use Rattle.wire.specs.Bytes.{numberAt}
-use Rattle.nts.specs.Refusal.{Beside, nothing, code, Refused}
+use Rattle.nts.specs.Refusal.{Beside, nothing, code, protocol, algorithm, Refused}
 use Rattle.layout.specs.declared.Shape.{Shape}
 use Rattle.layout.specs.declared.Shape.the-variants.{Skipped, Numbers, Number, Bytes, Name, Pairs, Halves, Unknown}
 use Rattle.layout.specs.Table.{shapeOf}
@@ -30,6 +30,8 @@ Small s = (i : ℕ) → getD s i 0 < 256
 abbrev pub Sixteen : Beside → Type 0
 Sixteen nothing = Unit {0}
 Sixteen (code c) = c < 65536
+Sixteen (protocol c) = c < 65536
+Sixteen (algorithm c) = c < 65536
 
 pub small-part : (s : List ℕ) (n at : ℕ) → Small s → Small (take n (drop at s))
 small-part s n at h i = go (ltb i n) refl
@@ -83,14 +85,27 @@ record-few s = few (ltb (length s) 4) 1 _ (omega arith) (fault-few (shapeOf (kin
 
 -- ---- what is said of a refusal
 
--- 5, 11 and 12 are told with a number beside them ..
+-- 5, 11 and 12 are told with a number beside them, 17 with a protocol or an algorithm ..
 abbrev pub coded : ℕ → Bool
 coded n = eqb n 5 || eqb n 11 || eqb n 12
 
+abbrev pub bareNumber : ℕ → Bool
+bareNumber n = not (coded n || eqb n 17)
+
+pub bare-not : (n : ℕ) → bareNumber n ≡ true → (coded n ≡ false) × (eqb n 17 ≡ false)
+bare-not n e = go (coded n) (eqb n 17) e
+  where
+    go : (a b : Bool) → not (a || b) ≡ true → (a ≡ false) × (b ≡ false)
+    go true b q = absurd (true≢false (sym q))
+    go false true q = absurd (true≢false (sym q))
+    go false false q = (refl, refl)
+
 -- .. and no other is
 abbrev pub Fits : ℕ → Beside → Type 0
-Fits n nothing = coded n ≡ false
+Fits n nothing = bareNumber n ≡ true
 Fits n (code c) = coded n ≡ true
+Fits n (protocol c) = eqb n 17 ≡ true
+Fits n (algorithm c) = eqb n 17 ≡ true
 
 -- the number n, with b beside it, told of the bytes s: P says of a number that it may be told
 pub record Numbered (P : ℕ → Type 0) (s : List ℕ) (n : ℕ) (b : Beside) : Type 0 where
@@ -99,7 +114,7 @@ pub record Numbered (P : ℕ → Type 0) (s : List ℕ) (n : ℕ) (b : Beside) :
   pub beside : Small s → Sixteen b
 
 module _ (P : ℕ → Type 0) where
-  pub bare : (s : List ℕ) (n : ℕ) → coded n ≡ false → P n → Numbered P s n nothing
+  pub bare : (s : List ℕ) (n : ℕ) → bareNumber n ≡ true → P n → Numbered P s n nothing
   bare s n f p = record { one = p; fits = f; beside = λ h. tt }
 
   -- .. as an act, a verdict, a step or a walk refuses

@@ -2,16 +2,16 @@
 -- Assumes nothing.
 use mathlib.Core.Path.{_≡_, refl, sym, ap, _∙_}
 use mathlib.Core.List.{List, [], _∷_}
-use mathlib.Core.Bool.{Bool, true, false, _&&_, true≢false}
+use mathlib.Core.Bool.{Bool, true, false, cond, _&&_, true≢false}
 use Prim.Native.Nat.{ℕ, suc, _+_, _<_, _≤_}
 use native.Mathlib.Omega.{arith}
 use lib.ListN.{length, getD, drop, drop-of-length-le}
 use lib.Seq.{drop-cons}
 use lib.Dec.{eqb}
 use borrow.Author.Tests.{eqb-true, eq-eqb, ne-eqb}
-use Rattle.nts.specs.Refusal.{Beside, nothing, code, Refused}
+use Rattle.nts.specs.Refusal.{Beside, nothing, code, protocol, algorithm, besideNumber, Refused}
 use Rattle.walk.specs.Found.{Way, wayRefused, wayEnded}
-use Rattle.walk.specs.Finding.{Found, sameNumbers, sameBeside, sameWay, sameFound}
+use Rattle.walk.specs.Finding.{Found, sameNumbers, sortIn, sameBeside, sameWay, sameFound}
 
 -- ---- two tests
 
@@ -31,8 +31,7 @@ numbers-self [] = refl
 numbers-self (x ∷ c) = rw (eq-eqb x x refl) (numbers-self c)
 
 beside-self : (b : Beside) → sameBeside b b ≡ true
-beside-self nothing = refl
-beside-self (code n) = eq-eqb n n refl
+beside-self b = rw (eq-eqb (sortIn b) (sortIn b) refl, eq-eqb (besideNumber b) (besideNumber b) refl)
 
 way-self : (w : Way) → sameWay w w ≡ true
 way-self (wayEnded p) = eq-eqb p p refl
@@ -54,11 +53,22 @@ numbers-apart (x ∷ c) (y ∷ d) e =
     let q : c ≡ d = numbers-apart c d (both-right (eqb x y) (sameNumbers c d) e) in
     cc
 
+-- what is beside a refusal, from its sort and its number
+beside-from : ℕ → ℕ → Beside
+beside-from s n = cond (eqb s 0) nothing (cond (eqb s 1) (code n) (cond (eqb s 2) (protocol n) (algorithm n)))
+
+beside-back : (b : Beside) → beside-from (sortIn b) (besideNumber b) ≡ b
+unfolding beside-from
+beside-back nothing = refl
+beside-back (code n) = refl
+beside-back (protocol n) = refl
+beside-back (algorithm n) = refl
+
 beside-apart : (a b : Beside) → sameBeside a b ≡ true → a ≡ b
-beside-apart nothing nothing e = refl
-beside-apart nothing (code n) e = absurd (true≢false (sym e))
-beside-apart (code n) nothing e = absurd (true≢false (sym e))
-beside-apart (code n) (code k) e = ap code (eqb-true n k e)
+beside-apart a b e =
+    let s : sortIn a ≡ sortIn b = eqb-true _ _ (both-left (eqb (sortIn a) (sortIn b)) (eqb (besideNumber a) (besideNumber b)) e) in
+    let n : besideNumber a ≡ besideNumber b = eqb-true _ _ (both-right (eqb (sortIn a) (sortIn b)) (eqb (besideNumber a) (besideNumber b)) e) in
+    sym (beside-back a) ∙ (λ i. beside-from (s i) (n i)) ∙ beside-back b
 
 way-apart : (v w : Way) → sameWay v w ≡ true → v ≡ w
 way-apart (wayEnded p) (wayEnded q) e = ap wayEnded (eqb-true p q e)

@@ -5,7 +5,7 @@ use mathlib.Core.List.{List, [], _∷_, map}
 use mathlib.Core.Bool.{Bool, true, false, _&&_}
 use lib.ListN.{take}
 use lib.Dec.{eqb}
-use Rattle.nts.specs.Refusal.{Beside, nothing, code}
+use Rattle.nts.specs.Refusal.{Beside, nothing, code, protocol, algorithm, besideNumber}
 use Rattle.walk.specs.Walk.{Reader, Sighting, walk}
 use Rattle.walk.specs.Judge.{ofKind}
 use Rattle.walk.specs.Shown.{shown, counted}
@@ -57,11 +57,15 @@ sameNumbers [] (y ∷ d) = false
 sameNumbers (x ∷ c) [] = false
 sameNumbers (x ∷ c) (y ∷ d) = eqb x y && sameNumbers c d
 
+-- what stands beside a refusal's number: which of the four, and the number there
+abbrev pub sortIn : Beside → ℕ
+sortIn nothing = 0
+sortIn (code n) = 1
+sortIn (protocol p) = 2
+sortIn (algorithm a) = 3
+
 abbrev pub sameBeside : Beside → Beside → Bool
-sameBeside nothing nothing = true
-sameBeside nothing (code n) = false
-sameBeside (code n) nothing = false
-sameBeside (code n) (code k) = eqb n k
+sameBeside a b = eqb (sortIn a) (sortIn b) && eqb (besideNumber a) (besideNumber b)
 
 abbrev pub sameWay : Way → Way → Bool
 sameWay (wayEnded p) (wayEnded q) = eqb p q

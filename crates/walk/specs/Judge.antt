@@ -14,10 +14,25 @@ pub data Verdict (Q : Type 0 → Type 0) (A : Type 0) : Type 0 where
   no : ℕ → Beside → Verdict Q A
   yes : Q A → Verdict Q A
 
--- what a read is asked under: after how many bytes the message is cut, and for how many records the lent table has room
+-- what is lent to a read beside its message: for how many records the table has room, and, of a reply, which protocols and which algorithms were offered
+-- (02, order 3)
+pub record Terms : Type 0 where
+  pub room : ℕ
+  pub protocols : ℕ → Bool
+  pub algorithms : ℕ → Bool
+
+-- every number is let in
+abbrev pub any : ℕ → Bool
+any n = true
+
+-- nothing is asked of a number
+abbrev pub roomFor : ℕ → Terms
+roomFor room = record { room = room; protocols = any; algorithms = any }
+
+-- what a read is asked under: after how many bytes the message is cut, and what is lent beside it
 pub record Under : Type 0 where
   pub limit : ℕ
-  pub room : ℕ
+  pub terms : Terms
 
 pub record Judge : Type 1 where
   -- the form of an accepted answer, over what stands for a body

@@ -16,10 +16,10 @@ ghost use Rattle.walk.specs.Judge.{some};
 ghost use Rattle.walk.specs.Shown.{slotOf};
 ghost use mathlib.Core.Bool.{cond, _&&_};
 ghost use lib.Dec.{eqb};
-ghost use Rattle.nts.specs.Refusal.{numberOf, besideOf, toldCode};
+ghost use Rattle.nts.specs.Refusal.{numberOf, besideOf, besideNumber, toldCode};
 ghost use Rattle.walk.specs.Rules.{readerOf};
 ghost use Rattle.walk.specs.Found.{entryIn, toldIn, wayBy, Walks};
-ghost use Rattle.walk.specs.Finding.{sameNumbers, sameBeside, sameWay, sameFound, foundBy, asFinding, toldFinding};
+ghost use Rattle.walk.specs.Finding.{sameNumbers, sortIn, sameBeside, sameWay, sameFound, foundBy, asFinding, toldFinding};
 ghost use Rattle.walk.specs.Met.{isMet, withMet, passing, toldPassed};
 ghost use Rattle.walk.specs.Code.{errorOf, asked, atMost, ruledOf, unknownOf, verdictOf, moreIn, Met, Few, lookedOf, Steps};
 
@@ -227,15 +227,28 @@ fn same_error(error: NtsError, other: NtsError) -> bool
 fn same_code(code: Code, other: Code) -> bool
     ensures { λ r. ⌜ r ≡ sameBeside (toldCode code) (toldCode other) ⌝ }
 {
+    (sort_of(code) == sort_of(other)) & (number_of(code) == number_of(other))
+}
+
+fn sort_of(code: Code) -> u8
+    ensures { λ r. ⌜ r ≡ sortIn (toldCode code) ⌝ }
+{
     match code {
-        Code::None => match other {
-            Code::None => true,
-            Code::Number(_) => false,
-        },
-        Code::Number(n) => match other {
-            Code::None => false,
-            Code::Number(k) => n == k,
-        },
+        Code::None => 0,
+        Code::Number(_) => 1,
+        Code::Protocol(_) => 2,
+        Code::Algorithm(_) => 3,
+    }
+}
+
+fn number_of(code: Code) -> u16
+    ensures { λ r. ⌜ r ≡ besideNumber (toldCode code) ⌝ }
+{
+    match code {
+        Code::None => 0,
+        Code::Number(n) => n,
+        Code::Protocol(protocol) => protocol.0,
+        Code::Algorithm(algorithm) => algorithm.0,
     }
 }
 

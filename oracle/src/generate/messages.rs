@@ -2,14 +2,18 @@
 
 use std::io::{self, Write};
 
+use super::payloads::Feed;
 use super::records::{body, good};
 use super::tokens::END;
-use super::{limited, record};
-use crate::corpus::{CELLS, CRATES_LIMIT, LARGEST_LIMIT, put};
+use super::{limited, offers, record};
+use crate::corpus::{CELLS, CRATES_LIMIT, LARGEST_LIMIT, LONGEST, put};
+use crate::payload::Payload;
 use crate::random::Random;
 
 /// The entries of the largest table.
 pub const ENTRIES: usize = CELLS / 2;
+/// A limit and a table's cells can stand before the lists.
+pub const BEFORE_LISTS: usize = 4;
 
 /// What requests and replies differ in, for what makes messages of either.
 pub struct Family {
@@ -23,6 +27,8 @@ pub struct Family {
     pub limited: u8,
     /// The op that is fed in pieces.
     pub fed: u8,
+    /// Whether the reader is told which lists were offered.
+    pub offered: bool,
     /// The kind of the records that fill the table.
     pub entry: u16,
     /// Kinds that a message may have any number of.
@@ -38,20 +44,71 @@ pub struct Family {
 }
 
 impl Family {
+    /// A case under the crate's limit with the largest table.
+    pub fn put_crates(&self, random: &mut Random, out: &mut impl Write, message: &[u8]) -> io::Result<()> {
+        put(out, self.crates, &self.with_lists(random, 0, message))
+    }
+
+    /// A case under a limit with a table.
+    pub fn put_limited(
+        &self,
+        random: &mut Random,
+        out: &mut impl Write,
+        (limit, cells): (usize, usize),
+        message: &[u8],
+    ) -> io::Result<()> {
+        put(out, self.limited, &limited(limit, cells, &self.with_lists(random, BEFORE_LISTS, message)))
+    }
+
     /// A case under the largest limit with the largest table.
-    pub fn put_largest(&self, out: &mut impl Write, message: &[u8]) -> io::Result<()> {
+    pub fn put_largest(&self, random: &mut Random, out: &mut impl Write, message: &[u8]) -> io::Result<()> {
+        let message = self.with_lists(random, BEFORE_LISTS, message);
+        self.put_largest_with(out, &[], &message)
+    }
+
+    /// The same with those lists in front.
+    pub fn put_largest_with(&self, out: &mut impl Write, lists: &[u8], message: &[u8]) -> io::Result<()> {
+        let message = [lists, message].concat();
         match self.largest {
-            Some(op) => put(out, op, message),
-            None => put(out, self.limited, &limited(LARGEST_LIMIT, CELLS, message)),
+            Some(op) => put(out, op, &message),
+            None => put(out, self.limited, &limited(LARGEST_LIMIT, CELLS, &message)),
         }
     }
 
-    /// The message of such a case; none for another.
-    pub fn largest_message<'a>(&self, op: u8, payload: &'a [u8]) -> Option<&'a [u8]> {
-        match self.largest {
-            Some(largest) => (op == largest).then_some(payload),
-            None => payload.strip_prefix(&limited(LARGEST_LIMIT, CELLS, &[])[..]).filter(|_| op == self.limited),
+    /// A case that is fed in pieces.
+    pub fn put_fed(&self, random: &mut Random, out: &mut impl Write, feed: Feed, pieces: &[&[u8]]) -> io::Result<()> {
+        let payload = feed.payload(pieces.iter().copied());
+        let lists = self.lists_before(random, &pieces.concat(), LONGEST.saturating_sub(payload.len()));
+        put(out, self.fed, &[lists, payload].concat())
+    }
+
+    /// A message with lists in front, if its reader is told of them; so many other bytes stand before them.
+    fn with_lists(&self, random: &mut Random, before: usize, message: &[u8]) -> Vec<u8> {
+        let lists = self.lists_before(random, message, LONGEST.saturating_sub(before + message.len()));
+        [&lists[..], message].concat()
+    }
+
+    /// Lists for the reader of a message, if it is told of them, in no more bytes than the room.
+    fn lists_before(&self, random: &mut Random, message: &[u8], room: usize) -> Vec<u8> {
+        if self.offered { offers::any(random, message, room) } else { Vec::new() }
+    }
+
+    /// Lists that hold what the message names, if its reader is told of them, in no more bytes than the room.
+    pub fn good_lists(&self, random: &mut Random, message: &[u8], room: usize) -> Vec<u8> {
+        if self.offered { offers::good(random, message, room) } else { Vec::new() }
+    }
+
+    /// The lists and the message of a case under the largest limit with the largest table; none for another.
+    pub fn largest_message<'a>(&self, op: u8, payload: &'a [u8]) -> Option<(&'a [u8], &'a [u8])> {
+        let payload = match self.largest {
+            Some(largest) => Some(payload).filter(|_| op == largest)?,
+            None => payload.strip_prefix(&limited(LARGEST_LIMIT, CELLS, &[])[..]).filter(|_| op == self.limited)?,
+        };
+        let mut rest = Payload(payload);
+        if self.offered {
+            let _: [Vec<u16>; 2] = [rest.listed()?, rest.listed()?];
         }
+        Some(payload.split_at(payload.len() - rest.0.len()))
     }
 }
 
@@ -90,7 +147,7 @@ pub fn one(family: &Family, random: &mut Random) -> (Vec<u8>, usize) {
 /// One of the ops; a limit is mostly around the message's length and a table around its entries.
 fn one_op(family: &Family, random: &mut Random, out: &mut impl Write, message: &[u8]) -> io::Result<()> {
     match random.below(4) {
-        0 => family.put_largest(out, message),
+        0 => family.put_largest(random, out, message),
         1 => {
             let limit = match random.below(4) {
                 0 => message.len() + random.below(9) - message.len().min(4),
@@ -99,9 +156,9 @@ fn one_op(family: &Family, random: &mut Random, out: &mut impl Write, message: &
                 _ => random.below(LARGEST_LIMIT + 1),
             };
             let cells = if random.once_in(4) { random.below(CELLS + 1) } else { random.below(14) };
-            put(out, family.limited, &limited(limit.min(LARGEST_LIMIT), cells, message))
+            family.put_limited(random, out, (limit.min(LARGEST_LIMIT), cells), message)
         }
-        _ => put(out, family.crates, message),
+        _ => family.put_crates(random, out, message),
     }
 }
 
@@ -202,7 +259,7 @@ fn every_limit(family: &Family, random: &mut Random, out: &mut impl Write) -> io
         let message = [records.concat(), random.bytes(3)].concat();
         for limit in 0..=message.len() + 2 {
             let cells = (2 * entries + random.below(4)).saturating_sub(1);
-            put(out, family.limited, &limited(limit, cells, &message))?;
+            family.put_limited(random, out, (limit, cells), &message)?;
         }
     }
     Ok(())
@@ -218,7 +275,7 @@ fn every_room(family: &Family, random: &mut Random, out: &mut impl Write) -> io:
             }
             shuffle(random, &mut records);
             records.push(END.to_vec());
-            put(out, family.limited, &limited(LARGEST_LIMIT, cells, &records.concat()))?;
+            family.put_limited(random, out, (LARGEST_LIMIT, cells), &records.concat())?;
         }
     }
     Ok(())
@@ -257,10 +314,10 @@ fn around(family: &Family, random: &mut Random, out: &mut impl Write, limit: usi
             let mut message = of_length(family, random, length);
             for more in [0, 1, 5] {
                 message.resize(length + more, 0x80);
-                put(out, family.crates, &message)?;
-                family.put_largest(out, &message)?;
+                family.put_crates(random, out, &message)?;
+                family.put_largest(random, out, &message)?;
                 let near = (limit + random.below(9) - 4).min(LARGEST_LIMIT);
-                put(out, family.limited, &limited(near, CELLS, &message))?;
+                family.put_limited(random, out, (near, CELLS), &message)?;
             }
         }
     }
@@ -281,10 +338,10 @@ fn full_tables(family: &Family, random: &mut Random, out: &mut impl Write) -> io
             shuffle(random, &mut records);
             records.push(END.to_vec());
             let message = records.concat();
-            put(out, family.crates, &message)?;
-            family.put_largest(out, &message)?;
+            family.put_crates(random, out, &message)?;
+            family.put_largest(random, out, &message)?;
             let cells = (2 * entries).min(CELLS) - random.below(4);
-            put(out, family.limited, &limited(LARGEST_LIMIT, cells, &message))?;
+            family.put_limited(random, out, (LARGEST_LIMIT, cells), &message)?;
         }
     }
     Ok(())
@@ -297,7 +354,7 @@ fn bad(family: &Family, random: &mut Random, out: &mut impl Write) -> io::Result
     }
     let message = [(family.lists)(random).concat(), END.to_vec()].concat();
     for cells in [CELLS, CELLS + 1, 4096, LARGEST_LIMIT] {
-        put(out, family.limited, &limited(LARGEST_LIMIT, cells, &message))?;
+        family.put_limited(random, out, (LARGEST_LIMIT, cells), &message)?;
     }
     Ok(())
 }

@@ -2,7 +2,7 @@
 
 use std::io::{self, Write};
 
-use super::messages::{Family, end, filler, shuffle};
+use super::messages::{BEFORE_LISTS, Family, end, filler, shuffle};
 use super::records::{good, size};
 use super::{CRITICAL, UNKNOWN, kind, record};
 use crate::corpus::{LARGEST_LIMIT, LONGEST};
@@ -38,22 +38,24 @@ fn one(family: &Family, random: &mut Random, out: &mut impl Write) -> io::Result
     shuffle(random, &mut records);
     let other = reordered(family, random, &records);
 
-    // A limit and a table's cells may stand before the message.
-    let room = LONGEST - 4 - records.concat().len() - end.len() - inserted.len();
+    // A limit and a table's cells may stand before the message, and lists, the same before all four.
+    let room = LONGEST - BEFORE_LISTS - records.concat().len() - end.len() - inserted.len();
+    let lists = family.good_lists(random, &records.concat(), room / 2);
+    let room = room - lists.len();
     let after = tail(family, random, room);
     let mut other_after = tail(family, random, room);
     while other_after == after {
         other_after = tail(family, random, room);
     }
 
-    family.put_largest(out, &[&records.concat()[..], &end, &after].concat())?;
-    family.put_largest(out, &[&other.concat()[..], &end, &other_after].concat())?;
+    family.put_largest_with(out, &lists, &[&records.concat()[..], &end, &after].concat())?;
+    family.put_largest_with(out, &lists, &[&other.concat()[..], &end, &other_after].concat())?;
     records.push(end);
     let at = random.below(records.len());
     for bit in [0, CRITICAL] {
         inserted[0] |= bit.to_be_bytes()[0];
         let (before, behind) = (records[..at].concat(), records[at..].concat());
-        family.put_largest(out, &[&before[..], &inserted, &behind, &after].concat())?;
+        family.put_largest_with(out, &lists, &[&before[..], &inserted, &behind, &after].concat())?;
     }
     Ok(())
 }

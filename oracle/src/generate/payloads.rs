@@ -1,4 +1,4 @@
-//! The payloads of ops g, n, a, p, P and k, of f and F, and of v and V.
+//! The payloads of ops g, n, a, p, P and k, of f and F, and of v and V, and the lists in front of those of y, l and F.
 
 /// The tags of a tray's fields.
 pub const COOKIE: u8 = 1;
@@ -34,6 +34,12 @@ fn counted(list: &[u16]) -> Vec<u8> {
 /// The bytes of numbers.
 pub fn numbers(list: &[u16]) -> Vec<u8> {
     list.iter().flat_map(|number| number.to_be_bytes()).collect()
+}
+
+/// Ops y, l and F: the lists that were offered, protocols first.
+pub fn offered(lists: [&[u16]; 2]) -> Vec<u8> {
+    let listed = |list: &[u16]| [vec![u8::try_from(list.len()).expect("a list's length")], numbers(list)].concat();
+    lists.map(listed).concat()
 }
 
 /// Op g: the client's two lists, as bytes, and the server's; protocols first.

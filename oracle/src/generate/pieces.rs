@@ -67,23 +67,25 @@ fn every_way(family: &Family, random: &mut Random, out: &mut impl Write) -> io::
         let length = message.len();
         let cells = 2 * entries + 2;
         let plain = Feed { limit: CRATES_LIMIT, cells, buffer: length, close: turn % 2 == 0 };
-        let mut case = |feed: Feed, pieces: &[&[u8]]| put(out, family.fed, &feed.payload(pieces.iter().copied()));
+        let mut case = |random: &mut Random, feed: Feed, pieces: &[&[u8]]| family.put_fed(random, out, feed, pieces);
 
         let bytes: Vec<&[u8]> = message.chunks(1).collect();
         for buffer in [length.saturating_sub(1), length, length + 1, ROOM] {
             for close in [false, true] {
-                case(Feed { buffer, close, ..plain }, &bytes)?;
+                case(random, Feed { buffer, close, ..plain }, &bytes)?;
             }
         }
         for place in 0..=length {
             let (before, behind) = message.split_at(place);
-            case(plain, &[before, behind])?;
-            case(Feed { close: place % 2 == 0, ..plain }, &[before])?;
+            case(random, plain, &[before, behind])?;
+            case(random, Feed { close: place % 2 == 0, ..plain }, &[before])?;
             let close = random.once_in(2);
-            case(Feed { buffer: place, close, ..plain }, &cut(&message, &cuts(random, &message)))?;
+            let pieces = cut(&message, &cuts(random, &message));
+            case(random, Feed { buffer: place, close, ..plain }, &pieces)?;
             let limit = place + random.below(3);
             let buffer = random.pick(&[length, length + 1, limit, limit.saturating_sub(1), place]);
-            case(Feed { limit, buffer, close, ..plain }, &cut(&message, &cuts(random, &message)))?;
+            let pieces = cut(&message, &cuts(random, &message));
+            case(random, Feed { limit, buffer, close, ..plain }, &pieces)?;
         }
     }
     Ok(())
@@ -100,9 +102,9 @@ fn ill_formed(family: &Family, random: &mut Random, out: &mut impl Write) -> io:
             let plain = Feed { limit: CRATES_LIMIT, cells: 4, buffer: message.len(), close: false };
             for place in before.len()..before.len() + 5 + size {
                 for feed in [Feed { limit: place, ..plain }, Feed { buffer: place, ..plain }] {
-                    put(out, family.fed, &feed.payload(message.chunks(1)))?;
+                    family.put_fed(random, out, feed, &pieces_of(&message, 1))?;
                 }
-                put(out, family.fed, &Feed { close: true, ..plain }.payload(message[..place].chunks(1)))?;
+                family.put_fed(random, out, Feed { close: true, ..plain }, &pieces_of(&message[..place], 1))?;
             }
         }
     }
@@ -119,10 +121,10 @@ fn around(family: &Family, random: &mut Random, out: &mut impl Write, limit: usi
                 let buffer = random.pick(&[length - 1, length, length + 1, limit - 1, limit, ROOM]);
                 let feed = Feed { limit, cells: CELLS, buffer, close: random.once_in(2) };
                 let size = random.pick(&[1400, 1024, 4095, 4096, 16_384, 33_000]);
-                put(out, family.fed, &feed.payload(message.chunks(size)))?;
+                family.put_fed(random, out, feed, &pieces_of(&message, size))?;
                 let at = random.pick(&[limit, length - 1, length, length - 4, length - 2]);
                 let at = at.min(message.len()).min(LONGEST_PIECE);
-                put(out, family.fed, &feed.payload([&message[..at], &message[at..]]))?;
+                family.put_fed(random, out, feed, &[&message[..at], &message[at..]])?;
             }
         }
     }
@@ -142,7 +144,8 @@ fn full_tables(family: &Family, random: &mut Random, out: &mut impl Write) -> io
             records.push(END.to_vec());
             let message = records.concat();
             let feed = Feed { limit: LARGEST_LIMIT, cells, buffer: message.len(), close: random.once_in(2) };
-            put(out, family.fed, &feed.payload(cut(&message, &cuts(random, &message))))?;
+            let pieces = cut(&message, &cuts(random, &message));
+            family.put_fed(random, out, feed, &pieces)?;
         }
     }
     Ok(())
@@ -152,7 +155,8 @@ fn full_tables(family: &Family, random: &mut Random, out: &mut impl Write) -> io
 fn bad(family: &Family, random: &mut Random, out: &mut impl Write) -> io::Result<()> {
     let message = [(family.lists)(random).concat(), END.to_vec()].concat();
     let feed = Feed { limit: LARGEST_LIMIT, cells: CELLS, buffer: ROOM, close: true };
-    let good = feed.payload(message.chunks(5));
+    let lists = family.good_lists(random, &message, 22);
+    let good = [&lists[..], &feed.payload(message.chunks(5))].concat();
     for length in 0..=good.len() {
         put(out, family.fed, &good[..length])?;
     }
@@ -165,11 +169,11 @@ fn bad(family: &Family, random: &mut Random, out: &mut impl Write) -> io::Result
         Feed { buffer: ROOM + 1, ..feed },
         Feed { buffer: u32::MAX as usize, ..feed },
     ] {
-        put(out, family.fed, &feed.payload(message.chunks(5)))?;
+        family.put_fed(random, out, feed, &pieces_of(&message, 5))?;
     }
     for close in [2, 3, 128, 255] {
         let mut payload = good.clone();
-        payload[10] = close;
+        payload[lists.len() + 10] = close;
         put(out, family.fed, &payload)?;
     }
     Ok(())
@@ -200,7 +204,7 @@ fn random_feed(
     };
     let feed = Feed { limit, cells, buffer: if random.once_in(400) { ROOM } else { buffer }, close: random.once_in(2) };
     let cuts = cuts(random, message);
-    put(out, family.fed, &feed.payload(cut(message, &cuts)))
+    family.put_fed(random, out, feed, &cut(message, &cuts))
 }
 
 /// A limit other than the crate's: around the message's length, around where a record begins, inside it, or any.
@@ -260,4 +264,9 @@ fn cut<'a>(message: &'a [u8], cuts: &[usize]) -> Vec<&'a [u8]> {
     let starts = [0].into_iter().chain(cuts.iter().copied());
     let ends = cuts.iter().copied().chain([message.len()]);
     starts.zip(ends).map(|(start, end)| &message[start..end]).collect()
+}
+
+/// The pieces of a message of so many bytes each.
+fn pieces_of(message: &[u8], size: usize) -> Vec<&[u8]> {
+    message.chunks(size).collect()
 }

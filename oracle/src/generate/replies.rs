@@ -3,10 +3,10 @@
 use std::io::{self, Write};
 
 use super::messages::{ENTRIES, Family, end, list_of, short, shuffle, unknown};
+use super::record;
 use super::records::name;
 use super::tokens::{self, END};
-use super::{limited, record};
-use crate::corpus::{CELLS, CRATES_LIMIT, LARGEST_LIMIT, put};
+use crate::corpus::{CELLS, CRATES_LIMIT, LARGEST_LIMIT};
 use crate::random::Random;
 
 pub const REPLIES: Family = Family {
@@ -15,6 +15,7 @@ pub const REPLIES: Family = Family {
     largest: None,
     limited: b'l',
     fed: b'F',
+    offered: true,
     entry: 5,
     repeated: &[5, 8, 15, 0x7fff],
     lists,
@@ -86,8 +87,8 @@ pub fn long_names(seed: u64, out: &mut impl Write) -> io::Result<()> {
             shuffle(&mut random, &mut records);
             records.push(END.to_vec());
             let message = records.concat();
-            put(out, REPLIES.crates, &message)?;
-            put(out, REPLIES.limited, &limited(limit, CELLS, &message))?;
+            REPLIES.put_crates(&mut random, out, &message)?;
+            REPLIES.put_limited(&mut random, out, (limit, CELLS), &message)?;
         }
     }
     Ok(())

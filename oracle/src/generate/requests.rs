@@ -10,6 +10,7 @@ pub const REQUESTS: Family = Family {
     largest: Some(b'Q'),
     limited: b'L',
     fed: b'f',
+    offered: false,
     entry: 13,
     repeated: &[13, 6, 8, 15, 0x7fff],
     lists,

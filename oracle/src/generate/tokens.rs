@@ -3,8 +3,8 @@
 use std::io::{self, Write};
 
 use super::messages::Family;
-use super::{limited, record};
-use crate::corpus::put;
+use super::record;
+use crate::random::Random;
 use crate::samples::hex;
 
 pub const END: [u8; 4] = [0x80, 0, 0, 0];
@@ -112,7 +112,8 @@ pub fn of_replies() -> Vec<Vec<u8>> {
 }
 
 /// All sequences of up to three: as they are, with an end record, and with a limit and a table near what they need.
-pub fn up_to_three(family: &Family, out: &mut impl Write) -> io::Result<()> {
+pub fn up_to_three(family: &Family, seed: u64, out: &mut impl Write) -> io::Result<()> {
+    let mut random = Random::new(seed, &format!("tokens of {}", family.name));
     let tokens = (family.tokens)();
     let mut turn = 0;
     for count in 0..=3 {
@@ -120,24 +121,26 @@ pub fn up_to_three(family: &Family, out: &mut impl Write) -> io::Result<()> {
             turn += 1;
             let bare = sequence.concat();
             let whole = [&bare[..], &END].concat();
-            put(out, family.crates, &bare)?;
+            family.put_crates(&mut random, out, &bare)?;
             if turn % 5 == 0 {
-                family.put_largest(out, &whole)?;
+                family.put_largest(&mut random, out, &whole)?;
             } else {
-                put(out, family.crates, &whole)?;
+                family.put_crates(&mut random, out, &whole)?;
             }
             let length = whole.len();
             let limit = [length, length - 1, length - 4, 65_535, 4096, length + 1, length / 2][turn % 7];
-            put(out, family.limited, &limited(limit, turn % 9, &[&whole[..], &END].concat()))
+            family.put_limited(&mut random, out, (limit, turn % 9), &[&whole[..], &END].concat())
         })?;
     }
     Ok(())
 }
 
 /// All sequences of four, with an end record.
-pub fn of_four(family: &Family, out: &mut impl Write) -> io::Result<()> {
-    let each = &mut |sequence: &[&[u8]]| put(out, family.crates, &[&sequence.concat()[..], &END].concat());
-    sequences(&(family.tokens)(), 4, each)
+pub fn of_four(family: &Family, seed: u64, out: &mut impl Write) -> io::Result<()> {
+    let mut random = Random::new(seed, &format!("tokens of {}, four", family.name));
+    sequences(&(family.tokens)(), 4, &mut |sequence| {
+        family.put_crates(&mut random, out, &[&sequence.concat()[..], &END].concat())
+    })
 }
 
 /// Each sequence of so many.

@@ -37,10 +37,7 @@ fn answered(line: &mut Vec<u8>, op: u8, payload: &[u8]) -> Option<()> {
             Some(())
         }
         b'L' => requests::under_a_limit(line, payload),
-        b'y' => {
-            replies::under_the_crates_limit(line, payload);
-            Some(())
-        }
+        b'y' => replies::under_the_crates_limit(line, payload),
         b'l' => replies::under_a_limit(line, payload),
         b'f' => pieces::request(line, payload),
         b'F' => pieces::reply(line, payload),

@@ -10,11 +10,10 @@ use std::task::{Context, Poll, Waker};
 
 use tokio::io::{AsyncRead, AsyncReadExt, ReadBuf, Take};
 
-use super::NtsError;
-use super::whole::{self, Accepted};
+use super::whole::{self, Accepted, Refused};
 use crate::payload::Payload;
 
-/// What a case of ops f and F describes.
+/// What a case of ops f and F describes, for F behind its lists.
 pub struct Feed {
     pub limit: usize,
     pub cells: usize,
@@ -96,14 +95,14 @@ impl AsyncRead for Line<'_> {
 /// the last one.
 pub struct Fed {
     pub taken: usize,
-    pub answered: Option<(Result<Accepted, NtsError>, usize)>,
+    pub answered: Option<(Result<Accepted, Refused>, usize)>,
 }
 
 /// Feeds a reader, which is asked at each call, with a line that ends after so many bytes.
 pub fn fed<'a>(
     feed: &'a Feed,
     limit: u64,
-    read: impl AsyncFnOnce(&mut Take<Line<'a>>) -> Result<Accepted, NtsError>,
+    read: impl AsyncFnOnce(&mut Take<Line<'a>>) -> Result<Accepted, Refused>,
 ) -> Fed {
     let state = Rc::new(Cell::new(State::default()));
     let mut line = Line { bytes: &feed.bytes, state: state.clone() }.take(limit);

@@ -6,7 +6,7 @@ use super::lines;
 use super::reading;
 use super::record::NtsRecord;
 use super::requests;
-use super::whole;
+use super::whole::{self, Refused};
 use crate::corpus::CRATES_LIMIT;
 use crate::payload::Payload;
 
@@ -86,9 +86,9 @@ impl Finding {
             ended = matches!(record, NtsRecord::EndOfMessage);
         }
         let reason = match answer.result {
-            Err(NtsError::IO(error)) => reading::refusal(error.kind()),
+            Err(Refused::Crates(NtsError::IO(error))) => reading::refusal(error.kind()),
             _ if ended => ENDED,
-            Err(error) => whole::refusal(error).0,
+            Err(error) => error.told().0,
             Ok(_) => panic!("the crate accepts no request without an end record"),
         };
         assert!(reason <= 4, "the crate refuses with {reason} before the end record");

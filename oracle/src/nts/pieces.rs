@@ -5,9 +5,10 @@
 
 use super::feeding::{Fed, Feed};
 use super::lines;
+use super::offered::Offered;
 use super::replies;
 use super::requests;
-use super::whole::{self, Answer};
+use super::whole::{self, Answer, Refused};
 use super::{NtsError, reading};
 use crate::corpus::CRATES_LIMIT;
 
@@ -29,17 +30,23 @@ pub fn request(line: &mut Vec<u8>, payload: &[u8]) -> Option<()> {
     Some(())
 }
 
-/// Op F. As for ops y and l the answer is that of the copy in which four edits make the crate's reader document 01's, and
-/// where no difference applies the line of the reader as it stands must be the same.
+/// Op F. As for ops y and l the answer is that of the copy in which five edits make the crate's reader document 01's, and
+/// where no difference applies the line of the reader as it stands must be the same. Each call is told of the same lists.
 pub fn reply(line: &mut Vec<u8>, payload: &[u8]) -> Option<()> {
-    let feed = Feed::of(payload)?;
-    let copys = replies::read_by_the_copy(&feed.bytes, feed.limit);
-    *line = told(&feed, copys, replies::fed_to_the_copy(&feed));
-    if replies::difference(feed.message()).is_none() {
+    let (offered, feed) = asked(payload)?;
+    let copys = replies::read_by_the_copy(&feed.bytes, feed.limit, &offered);
+    *line = told(&feed, copys, replies::fed_to_the_copy(&feed, &offered));
+    if replies::difference(feed.message(), &offered).is_none() {
         let crates = told(&feed, replies::read(&feed.bytes, feed.limit), replies::fed(&feed));
-        lines::judged(line, &crates, "the copy with four edits");
+        lines::judged(line, &crates, "the copy with five edits");
     }
     Some(())
+}
+
+/// What a case of op F describes.
+pub fn asked(payload: &[u8]) -> Option<(Offered, Feed)> {
+    let (offered, feed) = Offered::before(payload)?;
+    Some((offered, Feed::of(feed)?))
 }
 
 /// The record that an answer was decided on.
@@ -70,7 +77,7 @@ impl Deciding {
 }
 
 fn is_ill_formed(answer: &Answer) -> bool {
-    matches!(&answer.result, Err(NtsError::IO(error)) if reading::refusal(error.kind()) == ILL_FORMED)
+    matches!(&answer.result, Err(Refused::Crates(NtsError::IO(error))) if reading::refusal(error.kind()) == ILL_FORMED)
 }
 
 /// What ends a reading, how many bytes are held then and with which call; no call where nothing does.
@@ -173,9 +180,16 @@ pub struct Ended {
 
 /// How the reading of a case ended; none where the payload is no good.
 pub fn ended(op: u8, payload: &[u8]) -> Option<Ended> {
-    let feed = Feed::of(payload)?;
-    let read = if op == b'f' { requests::read } else { replies::read_by_the_copy };
-    let deciding = Deciding::of(&read(&feed.bytes, feed.limit), feed.message());
+    let (feed, answer) = if op == b'f' {
+        let feed = Feed::of(payload)?;
+        let answer = requests::read(&feed.bytes, feed.limit);
+        (feed, answer)
+    } else {
+        let (offered, feed) = asked(payload)?;
+        let answer = replies::read_by_the_copy(&feed.bytes, feed.limit, &offered);
+        (feed, answer)
+    };
+    let deciding = Deciding::of(&answer, feed.message());
     let Moment { by, held, .. } = Moment::of(&feed, feed.buffer, &deciding);
     Some(Ended {
         by,

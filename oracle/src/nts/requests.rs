@@ -2,10 +2,9 @@
 
 use tokio::io::AsyncRead;
 
-use super::NtsError;
 use super::feeding::{self, Fed, Feed, NO_LIMIT};
 use super::lines;
-use super::whole::{self, Accepted, Answer, at_once};
+use super::whole::{self, Accepted, Answer, Refused, at_once};
 use crate::corpus::{CELLS, CRATES_LIMIT, LARGEST_LIMIT};
 
 /// Op q: the crate's own file cuts the message.
@@ -20,8 +19,8 @@ pub fn under_the_largest_limit(line: &mut Vec<u8>, message: &[u8]) {
 
 /// Op L.
 pub fn under_a_limit(line: &mut Vec<u8>, payload: &[u8]) -> Option<()> {
-    let (message, cells) = whole::limited(payload)?;
-    tell(line, message, cells);
+    let (limit, cells, message) = whole::limited(payload)?;
+    tell(line, whole::cut(message, limit), cells);
     Some(())
 }
 
@@ -52,7 +51,7 @@ pub fn fed(feed: &Feed) -> Fed {
 /// Reads a message with one of the two files; their types are apart, their text is the same.
 macro_rules! reader {
     ($name:ident, $file:ident) => {
-        async fn $name<R: AsyncRead + Unpin>(bytes: &mut R) -> Result<Accepted, NtsError> {
+        async fn $name<R: AsyncRead + Unpin>(bytes: &mut R) -> Result<Accepted, Refused> {
             use super::$file::Request;
 
             let request = Request::parse(bytes).await?;

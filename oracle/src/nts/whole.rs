@@ -1,30 +1,54 @@
 //! What reading a request and reading a reply share. The crate tells no place and has no table: the place is found by
-//! walking with its record reader, and refusal 7 is document 01's.
+//! walking with its record reader, and refusal 7 is document 01's. Refusal 17 is order 3's.
 
 use super::NtsError;
 use super::lines;
 use super::poll::now;
 use super::reading;
-use crate::corpus::CELLS;
+use crate::payload::Payload;
 
 const NO_ROOM: u8 = 7;
+const NOT_OFFERED: u8 = 17;
 
 /// A message as it is read under a limit.
 pub fn cut(message: &[u8], limit: usize) -> &[u8] {
     &message[..message.len().min(limit)]
 }
 
-/// The payload of ops L and l: the message, cut at its limit, and the table's cells.
-pub fn limited(payload: &[u8]) -> Option<(&[u8], usize)> {
-    let (&[l0, l1, c0, c1], message) = payload.split_first_chunk()?;
-    let cells = usize::from(u16::from_be_bytes([c0, c1]));
-    (cells <= CELLS).then(|| (cut(message, usize::from(u16::from_be_bytes([l0, l1]))), cells))
+/// The payload of ops L and l: the limit, the table's cells, and what stands behind them.
+pub fn limited(payload: &[u8]) -> Option<(usize, usize, &[u8])> {
+    let mut payload = Payload(payload);
+    Some((payload.number()?.into(), payload.table()?, payload.0))
 }
 
 /// What the crate answered, and how many bytes it took for it.
 pub struct Answer {
-    pub result: Result<Accepted, NtsError>,
+    pub result: Result<Accepted, Refused>,
     pub taken: usize,
+}
+
+/// Why a message is refused.
+pub enum Refused {
+    /// For an error of the crate's.
+    Crates(NtsError),
+    /// For a number that was not offered, which no error of the crate's tells.
+    NotOffered(u16),
+}
+
+impl From<NtsError> for Refused {
+    fn from(error: NtsError) -> Self {
+        Self::Crates(error)
+    }
+}
+
+impl Refused {
+    /// The refusal's number, and the code that is returned with it.
+    pub fn told(self) -> (u8, Option<u16>) {
+        match self {
+            Self::Crates(error) => refusal(error),
+            Self::NotOffered(number) => (NOT_OFFERED, Some(number)),
+        }
+    }
 }
 
 /// The line of an accepted message and how many entries of the table it fills.
@@ -34,7 +58,7 @@ pub struct Accepted {
 }
 
 /// What a reader answers to bytes that are all there.
-pub fn at_once<'a>(message: &'a [u8], read: impl AsyncFnOnce(&mut &'a [u8]) -> Result<Accepted, NtsError>) -> Answer {
+pub fn at_once<'a>(message: &'a [u8], read: impl AsyncFnOnce(&mut &'a [u8]) -> Result<Accepted, Refused>) -> Answer {
     let mut rest = message;
     let result = now(read(&mut rest));
     Answer { result, taken: message.len() - rest.len() }
@@ -43,7 +67,7 @@ pub fn at_once<'a>(message: &'a [u8], read: impl AsyncFnOnce(&mut &'a [u8]) -> R
 /// The place of the record that an answer to a cut message was decided on: the one that is refused, or the end record.
 pub fn deciding(answer: &Answer, message: &[u8]) -> usize {
     let place = match answer.result {
-        Err(NtsError::IO(_)) => unread(message).1,
+        Err(Refused::Crates(NtsError::IO(_))) => unread(message).1,
         _ => last_taken(message, answer.taken),
     };
     place as usize
@@ -56,13 +80,13 @@ pub fn tell(line: &mut Vec<u8>, answer: Answer, message: &[u8], cells: usize) {
     match answer.result {
         Ok(accepted) if accepted.entries > cells / 2 => refused(line, NO_ROOM),
         Ok(accepted) => line.extend_from_slice(&accepted.line),
-        Err(NtsError::IO(error)) => {
+        Err(Refused::Crates(NtsError::IO(error))) => {
             let (refusal, place) = unread(message);
             assert_eq!(refusal, reading::refusal(error.kind()), "the walk and the crate agree");
             lines::refused_at(line, refusal, place);
         }
         Err(error) => {
-            let (refusal, code) = refusal(error);
+            let (refusal, code) = error.told();
             refused(line, refusal);
             if let Some(code) = code {
                 lines::text(line, " code ");

@@ -79,11 +79,11 @@ fn record(name: &str) -> Vec<u8> {
     generate::record(word, body.len(), &body)
 }
 
-/// A name cut by the limit between sequences, inside one and before the fault.
-pub fn cut_names(out: &mut impl Write, op: u8, word: &str) -> io::Result<()> {
+/// A name cut by the limit between sequences, inside one and before the fault; lists may stand before the message.
+pub fn cut_names(out: &mut impl Write, op: u8, before: &[u8], word: &str) -> io::Result<()> {
     let bytes = hex(&format!("{word} 0005 41 C3A9 C328 8000 0000"));
     for limit in 0..=bytes.len() {
-        put(out, op, &limited(limit, 4, &bytes))?;
+        put(out, op, &limited(limit, 4, &[before, &bytes].concat()))?;
     }
     Ok(())
 }

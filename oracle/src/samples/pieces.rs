@@ -5,6 +5,7 @@ use std::io::{self, Write};
 use super::hex;
 use super::named::message;
 use super::reading::M;
+use super::replies::{ANSWERS, OFFER, OFFERS, asked};
 use super::{replies, requests};
 use crate::corpus::put;
 use crate::generate::payloads::Feed;
@@ -22,13 +23,20 @@ pub fn pieces(out: &mut impl Write) -> io::Result<()> {
     }
     rooms(out)?;
     of_the_set(b'f', &requests::MESSAGES, out)?;
-    of_the_set(b'F', &replies::MESSAGES, out)
+    of_the_set(b'F', &replies::MESSAGES, out)?;
+    offers(out)
+}
+
+/// The payload of either op, for a reply with lists in front that hold what it names.
+fn payload<'a>(op: u8, feed: Feed, pieces: impl IntoIterator<Item = &'a [u8]>) -> Vec<u8> {
+    let payload = feed.payload(pieces);
+    if op == b'f' { payload } else { asked(OFFER, &payload) }
 }
 
 /// Feeds pieces that blanks part; `-` is an empty one.
 fn fed(op: u8, feed: Feed, pieces: &str, out: &mut impl Write) -> io::Result<()> {
     let pieces: Vec<Vec<u8>> = pieces.split_whitespace().map(|piece| hex(&piece.replace('-', ""))).collect();
-    put(out, op, &feed.payload(pieces.iter().map(Vec::as_slice)))
+    put(out, op, &payload(op, feed, pieces.iter().map(Vec::as_slice)))
 }
 
 /// An accepted message in one piece, byte by byte, at every place, with empty pieces, with bytes after its end, with every
@@ -37,7 +45,7 @@ fn waits_and_ends(op: u8, out: &mut impl Write) -> io::Result<()> {
     let whole = if op == b'f' { hex(M) } else { message("protocol algorithm cookie-empty end") };
     let length = whole.len();
     let tail = [&whole[..], &hex("80 00 00 00 FF")].concat();
-    let mut case = |feed: Feed, pieces: Vec<&[u8]>| put(out, op, &feed.payload(pieces));
+    let mut case = |feed: Feed, pieces: Vec<&[u8]>| put(out, op, &payload(op, feed, pieces));
     for feed in [PLAIN, CLOSED] {
         case(feed, vec![])?;
         case(feed, vec![&[]])?;
@@ -132,7 +140,7 @@ fn rooms(out: &mut impl Write) -> io::Result<()> {
         for cells in [0, 1, 2, 3, 4, 5, 2048] {
             for close in [false, true] {
                 let feed = Feed { cells, close, ..PLAIN };
-                put(out, op, &feed.payload(message.chunks(6).chain([&[][..], &[0x80]])))?;
+                put(out, op, &payload(op, feed, message.chunks(6).chain([&[][..], &[0x80]])))?;
             }
         }
     }
@@ -145,14 +153,32 @@ fn of_the_set(op: u8, messages: &[&str], out: &mut impl Write) -> io::Result<()>
         let message = message(names);
         let limit = if turn % 3 == 0 { 65_535 } else { 4096 };
         let feed = Feed { limit, cells: 32, buffer: message.len() + turn % 2, close: turn % 4 < 2 };
-        put(out, op, &feed.payload(message.chunks(1 + turn % 6)))?;
+        put(out, op, &payload(op, feed, message.chunks(1 + turn % 6)))?;
+    }
+    Ok(())
+}
+
+/// Lists that hold what a reply names and that do not; further pieces and the close find the same answer.
+fn offers(out: &mut impl Write) -> io::Result<()> {
+    for (turn, offer) in OFFERS.into_iter().enumerate() {
+        for names in &ANSWERS[..3] {
+            let message = message(names);
+            let feed = Feed { buffer: message.len(), close: turn % 2 == 0, ..PLAIN };
+            put(out, b'F', &asked(offer, &feed.payload(message.chunks(1 + turn % 7).chain([&[][..], &[0x80]]))))?;
+        }
+        let reply = message(ANSWERS[0]);
+        for (limit, cells, buffer) in [(22, 2, 22), (21, 2, 22), (22, 2, 21), (65_535, 1, 64)] {
+            let feed = Feed { limit, cells, buffer, close: false };
+            put(out, b'F', &asked(offer, &feed.payload(reply.chunks(5))))?;
+        }
     }
     Ok(())
 }
 
 /// Payloads that do not fit, and the largest values that do.
 fn bad_cases(op: u8, out: &mut impl Write) -> io::Result<()> {
-    let good = CLOSED.payload([&hex("8000")[..], &[], &hex("0000")]);
+    let good = payload(op, CLOSED, [&hex("8000")[..], &[], &hex("0000")]);
+    let lists = good.len() - CLOSED.payload([&hex("8000")[..], &[], &hex("0000")]).len();
     for length in 0..good.len() {
         put(out, op, &good[..length])?;
     }
@@ -170,7 +196,7 @@ fn bad_cases(op: u8, out: &mut impl Write) -> io::Result<()> {
     }
     for close in [2, 255] {
         let mut payload = good.clone();
-        payload[10] = close;
+        payload[lists + 10] = close;
         put(out, op, &payload)?;
     }
     Ok(())

@@ -7,6 +7,53 @@ use super::named::{cut_names, message};
 use super::reading::M;
 use crate::corpus::put;
 use crate::generate::limited;
+use crate::generate::payloads::offered;
+
+/// What was offered to most of them; it holds each number that they name.
+pub const OFFER: [&[u16]; 2] = [&[0], &[15, 17, 16]];
+/// Lists that hold 0 and 15 alone, first, last, between others and twice; lists that lack one of them or both, that are
+/// exchanged or empty, and lists whose numbers have a byte in common with those.
+pub const OFFERS: [[&[u16]; 2]; 22] = [
+    [&[0], &[15]],
+    [&[0, 0x8001], &[15, 17]],
+    [&[0x8001, 0], &[17, 15]],
+    [&[7, 0, 1], &[16, 15, 17]],
+    [&[0, 0], &[15, 15]],
+    [&[0, 7, 0], &[15, 17, 15, 15]],
+    [&[15, 0], &[0, 15]],
+    [&[1, 2, 3, 4, 5, 6, 7, 8, 9, 0], &[1, 2, 3, 4, 5, 6, 7, 8, 9, 15]],
+    [&[], &[15]],
+    [&[0], &[]],
+    [&[], &[]],
+    [&[], &[0, 15]],
+    [&[0, 15], &[]],
+    [&[15], &[0]],
+    [&[0x8001], &[15]],
+    [&[0], &[17]],
+    [&[0x8001], &[17]],
+    [&[7, 1], &[16, 15]],
+    [&[0, 7], &[16, 17]],
+    [&[0x0100], &[0x0F0F]],
+    [&[0], &[0x0F00]],
+    [&[0], &[0x800F]],
+];
+/// Replies to which each of them is offered: what stands before the end, an empty list and a missing one come before 17, a
+/// missing cookie after it.
+pub const ANSWERS: [&str; 13] = [
+    "protocol algorithm cookie end",
+    "algorithm-17 protocol-clear cookie end",
+    "protocol algorithm end",
+    "protocol algorithm cookie",
+    "protocol algorithm cookie error end",
+    "protocol warning algorithm cookie end",
+    "critical protocol algorithm cookie end",
+    "protocol algorithm authentication cookie end",
+    "protocol algorithm protocol cookie end",
+    "no-protocol algorithm cookie end",
+    "protocol no-algorithm cookie end",
+    "protocol cookie end",
+    "algorithm cookie end",
+];
 
 const NINE_COOKIES: &str = "protocol algorithm cookie-empty cookie-empty cookie-empty cookie-empty cookie-empty \
     cookie-empty cookie-empty cookie-empty cookie-empty end";
@@ -143,24 +190,72 @@ pub const MESSAGES: [&str; 116] = [
 
 pub fn replies(out: &mut impl Write) -> io::Result<()> {
     for names in MESSAGES {
-        put(out, b'y', &message(names))?;
+        put(out, b'y', &asked(OFFER, &message(names)))?;
     }
     limits(out)?;
     rooms(out)?;
-    for length in 0..=4 {
+    offers(out)?;
+    bad_cases(out)?;
+    cut_names(out, b'l', &offered(OFFER), "8006")
+}
+
+/// A message with lists in front.
+pub fn asked(offer: [&[u16]; 2], message: &[u8]) -> Vec<u8> {
+    [&offered(offer)[..], message].concat()
+}
+
+/// Lists that hold what a reply names and that do not, and refusals that come before it and after it.
+fn offers(out: &mut impl Write) -> io::Result<()> {
+    for offer in OFFERS {
+        for names in ANSWERS {
+            put(out, b'y', &asked(offer, &message(names)))?;
+        }
+        for cells in [0, 1, 2] {
+            put(out, b'l', &limited(65_535, cells, &asked(offer, &message(ANSWERS[0]))))?;
+        }
+    }
+    let mut long: Vec<u16> = (1000..1255).collect();
+    for number in [0, 15, 0] {
+        put(out, b'y', &asked([&long, &[15]], &message(ANSWERS[0])))?;
+        put(out, b'y', &asked([&[0], &long], &message(ANSWERS[0])))?;
+        long[254] = number;
+    }
+    put(out, b'y', &asked([&long, &long], &message(ANSWERS[0])))?;
+    for numbers in ["8001 0002 FFFF 8004 0002 FF00", "8001 0002 00FF 8004 0002 0001"] {
+        let reply = [hex(numbers), message("cookie end")].concat();
+        for offer in [[&[0xffff, 0xff][..], &[0xff00, 1][..]], [&[0xff00], &[0xff00]], [&[0xffff, 0xff], &[0x100]]] {
+            put(out, b'y', &asked(offer, &reply))?;
+        }
+    }
+    Ok(())
+}
+
+/// Payloads that end before the message begins, and those that end there.
+fn bad_cases(out: &mut impl Write) -> io::Result<()> {
+    for length in 0..=6 {
+        put(out, b'y', &vec![0; length])?;
         put(out, b'l', &vec![0; length])?;
     }
-    cut_names(out, b'l', "8006")
+    let lists = offered(OFFER);
+    for length in 0..=lists.len() {
+        put(out, b'y', &lists[..length])?;
+        put(out, b'l', &limited(65_535, 8, &lists[..length]))?;
+    }
+    let long = offered([&[0; 255], &[15; 255]]);
+    for length in [510, 511, 512, long.len() - 1, long.len()] {
+        put(out, b'y', &long[..length])?;
+    }
+    put(out, b'l', &limited(65_535, 2049, &asked(OFFER, &message("protocol algorithm cookie end"))))
 }
 
 /// Limits around each record's end, and the largest.
 fn limits(out: &mut impl Write) -> io::Result<()> {
     let reply = message("protocol algorithm server port cookie end-with-body");
     for limit in (0..=reply.len() + 2).chain([4096, 65_535]) {
-        put(out, b'l', &limited(limit, 2, &reply))?;
+        put(out, b'l', &limited(limit, 2, &asked(OFFER, &reply)))?;
     }
     for limit in 15..=17 {
-        put(out, b'l', &limited(limit, 2, &hex(M)))?;
+        put(out, b'l', &limited(limit, 2, &asked(OFFER, &hex(M))))?;
     }
     Ok(())
 }
@@ -169,10 +264,10 @@ fn limits(out: &mut impl Write) -> io::Result<()> {
 fn rooms(out: &mut impl Write) -> io::Result<()> {
     let two_cookies = message("protocol cookie algorithm cookie-empty end");
     for cells in [0, 1, 2, 3, 4, 5, 6, 2047, 2048, 2049, 65_535] {
-        put(out, b'l', &limited(65_535, cells, &two_cookies))?;
+        put(out, b'l', &limited(65_535, cells, &asked(OFFER, &two_cookies)))?;
     }
     for cells in 14..=20 {
-        put(out, b'l', &limited(65_535, cells, &message(NINE_COOKIES)))?;
+        put(out, b'l', &limited(65_535, cells, &asked(OFFER, &message(NINE_COOKIES))))?;
     }
     for names in [
         "protocol algorithm end",
@@ -185,8 +280,8 @@ fn rooms(out: &mut impl Write) -> io::Result<()> {
         "protocol algorithm cookie critical end",
         "protocol algorithm cookie",
     ] {
-        put(out, b'l', &limited(65_535, 0, &message(names)))?;
-        put(out, b'l', &limited(65_535, 1, &message(names)))?;
+        put(out, b'l', &limited(65_535, 0, &asked(OFFER, &message(names))))?;
+        put(out, b'l', &limited(65_535, 1, &asked(OFFER, &message(names))))?;
     }
     Ok(())
 }

@@ -137,5 +137,5 @@ pub fn requests(out: &mut impl Write) -> io::Result<()> {
     for length in 0..=4 {
         put(out, b'L', &vec![0; length])?;
     }
-    cut_names(out, b'L', "800D")
+    cut_names(out, b'L', &[], "800D")
 }

@@ -6,7 +6,7 @@ use Rattle.cells.proofs.refused_at.Statement.{statement}
 use Rattle.cells.proofs.refused_at.Tie as tie
 
 returns : tie.Need-returns
-returns c = adds-up _ _ (c .before .number .ensures) (c .beside .ensures)
+returns c = adds-up _ _ _ (c .before .mark .ensures) (c .beside .ensures)
 
 pub refused-at-spec : {M : Type 1} → statement M
 refused-at-spec =

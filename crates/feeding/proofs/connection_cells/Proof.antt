@@ -11,7 +11,7 @@ returns-2 : tie.Need-returns-2
 returns-2 c = rw (c .enum-told2 .given .1)
 
 returns-3 : tie.Need-returns-3
-returns-3 c = rw (c .before .before .before .state .given .1, c .before .number .ensures, c .beside .ensures)
+returns-3 c = rw (c .before .before .before .state .given .1, c .before .mark .ensures, c .beside .ensures)
 
 pub connection-cells-spec : {M : Type 1} → statement M
 connection-cells-spec =

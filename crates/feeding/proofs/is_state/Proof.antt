@@ -12,7 +12,7 @@ returns c = rw (lt-ltb _ _ (c .if1 .taken)) (search needs)
 
 returns-2 : tie.Need-returns-2
 unfolding isStanding
-returns-2 c = rw (le-ltb _ _ (c .before .if1 .left), c .has-beside .ensures)
+returns-2 c = rw (le-ltb _ _ (c .before .before .if1 .left), c .before .is-mark .ensures, c .has-beside .ensures)
 
 pub is-state-spec : {M : Type 1} → statement M
-is-state-spec = tie.close (tie.spec returns (λ c κs. search needs) returns-2)
+is-state-spec = tie.close (tie.spec returns (λ c κs. search needs) (λ c κs. search needs) returns-2)

@@ -11,7 +11,13 @@ returns c = rw (c .enum-told .given .1) put-none
 returns-2 : tie.Need-returns-2
 returns-2 c = rw (c .before .before .before .before .before .before .code .given .1) (c .before .before .put-field .ensures)
 
+returns-3 : tie.Need-returns-3
+returns-3 c = rw (c .before .before .before .before .before .before .before .code2 .given .1) (c .before .before .put-field2 .ensures)
+
+returns-4 : tie.Need-returns-4
+returns-4 c = rw (c .before .before .before .before .before .before .before .code3 .given .1) (c .before .before .put-field3 .ensures)
+
 pub put-code-spec : {M : Type 1} → statement M
 put-code-spec =
     tie.close
-    (tie.spec (λ c. search needs) (λ c. search needs) (λ c. search needs) (λ c. search needs) (λ c κs. search needs) returns (λ c. search needs) returns-2)
+    (tie.spec (λ c. search needs) (λ c. search needs) (λ c. search needs) (λ c. search needs) (λ c κs. search needs) (λ c. search needs) (λ c. search needs) (λ c. search needs) (λ c κs. search needs) (λ c. search needs) (λ c. search needs) (λ c. search needs) (λ c κs. search needs) returns (λ c. search needs) returns-2 (λ c. search needs) returns-3 (λ c. search needs) returns-4)

@@ -21,7 +21,7 @@ pending-reply-requires c κs = (sym (c .before .before .before .before .before .
 
 reply-again-requires : tie.Need-reply-again-requires
 unfolding counts broken
-reply-again-requires c κs = counted-inside (c .before .before .before .before .before .before .before .before .args .connection) (now (c .before .before .before .before .before .before .before .before .args .buffer)) (sym (c .before .before .before .before .is-broken .ensures) ∙ c .before .before .before .if1 .left)
+reply-again-requires c κs = counted-inside (c .before .before .before .before .before .before .before .before .before .before .args .connection) (now (c .before .before .before .before .before .before .before .before .before .before .args .buffer)) (sym (c .before .before .before .before .is-broken .ensures) ∙ c .before .before .before .if1 .left)
 
 returns-3 : tie.Need-returns-3
 unfolding counts broken

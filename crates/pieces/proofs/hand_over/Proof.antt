@@ -1,6 +1,6 @@
 -- `hand_over` copies the record out of its opened borrow, calls `hand` with the copy and all else that was passed, stores the record that it returns
 -- and closes the borrow at it: a walk of its MIR, by hand. The walk is of any function of this form, over types of which it knows the few facts that it uses
--- (`ways`), so that nothing computes a type as wide as an answer's; then the types are put in. The piece, the buffer and the table are passed on for good.
+-- (`ways`), so that nothing computes a type as wide as an answer's; then the types are put in. The piece, the offered lists, the buffer and the table are passed on for good.
 -- All that the proof knows of `hand` is that it meets its contract, and what that says (`HandsOver`) is not opened.
 -- Assumes nothing.
 use mathlib.Core.Path.{_≡_, refl, sym, ap}
@@ -89,23 +89,25 @@ both c a = vstruct (vcons c (vcons a vnil))
 -- the function that calls f, where τa is the answer's type, τn and τc the record's, by name and by value, τe that of what is expected, and ν and τs the result's
 abbrev made : (τa τn τc τe : Ty) (ν : Sym) (τs : Tys) (f : Name) → Fn
 made τa τn τc τe ν τs f = record {
-  lifetimes = 4;
+  lifetimes = 6;
   outlives = [];
-  params = 6;
+  params = 8;
   locals =
       held τa ∷ held (tyRef (named 0) mut τn) ∷ held τe ∷ held tyBool ∷ held (sliceTy (tyRef (named 1) imm (tyInt w8)))
-      ∷ held (sliceTy (tyRef (named 2) mut (tyInt w8))) ∷ held (sliceTy (tyRef (named 3) mut (tyInt w16))) ∷ held (tyStruct ν τs) ∷ held τc
+      ∷ held (sliceTy (tyRef (named 2) imm (tyInt w16))) ∷ held (sliceTy (tyRef (named 3) imm (tyInt w16)))
+      ∷ held (sliceTy (tyRef (named 4) mut (tyInt w8))) ∷ held (sliceTy (tyRef (named 5) mut (tyInt w16))) ∷ held (tyStruct ν τs) ∷ held τc
       ∷ held (tyRef erased mut (tyInt w8)) ∷ held (sliceTy (tyRef erased mut (tyInt w8))) ∷ held (tyRef erased mut (tyInt w16))
       ∷ held (sliceTy (tyRef erased mut (tyInt w16))) ∷ [];
   body =
-      seq (assign (place 8 []) (rvOpd (copy (place 1 (deref τc ∷ [])))))
-      (seq (assign (place 9 []) (addrOf (place 5 (field 0 ∷ deref (tyInt w8) ∷ []))))
-      (seq (assign (place 10 []) (aggregate (copy (place 9 []) ∷ copy (place 5 (field 1 ∷ [])) ∷ [])))
-      (seq (assign (place 11 []) (addrOf (place 6 (field 0 ∷ deref (tyInt w16) ∷ []))))
-      (seq (assign (place 12 []) (aggregate (copy (place 11 []) ∷ copy (place 6 (field 1 ∷ [])) ∷ [])))
-      (seq (call f (copy (place 8 []) ∷ copy (place 2 []) ∷ copy (place 3 []) ∷ copy (place 4 []) ∷ copy (place 10 []) ∷ copy (place 12 []) ∷ []) (place 7 []))
-      (seq (assign (place 1 (deref τc ∷ [])) (rvOpd (copy (place 7 (field 0 ∷ [])))))
-      (seq (assign (place 0 []) (rvOpd (copy (place 7 (field 1 ∷ []))))) return)))))));
+      seq (assign (place 10 []) (rvOpd (copy (place 1 (deref τc ∷ [])))))
+      (seq (assign (place 11 []) (addrOf (place 7 (field 0 ∷ deref (tyInt w8) ∷ []))))
+      (seq (assign (place 12 []) (aggregate (copy (place 11 []) ∷ copy (place 7 (field 1 ∷ [])) ∷ [])))
+      (seq (assign (place 13 []) (addrOf (place 8 (field 0 ∷ deref (tyInt w16) ∷ []))))
+      (seq (assign (place 14 []) (aggregate (copy (place 13 []) ∷ copy (place 8 (field 1 ∷ [])) ∷ [])))
+      (seq (call f (copy (place 10 []) ∷ copy (place 2 []) ∷ copy (place 3 []) ∷ copy (place 4 []) ∷ copy (place 5 []) ∷ copy (place 6 []) ∷ copy (place 12 [])
+      ∷ copy (place 14 []) ∷ []) (place 9 []))
+      (seq (assign (place 1 (deref τc ∷ [])) (rvOpd (copy (place 9 (field 0 ∷ [])))))
+      (seq (assign (place 0 []) (rvOpd (copy (place 9 (field 1 ∷ []))))) return)))))));
 }
 
 module _ {M : Type 1} (𝓤 : URA M) (H : Heap 𝓤) (A : Atoms 𝓤) (W : Given 𝓤 H A) (C : Calls 𝓤 H) (Λ : Loops 𝓤 H) (fm : FmC 𝓤 H (W .laws) C)
@@ -113,14 +115,16 @@ module _ {M : Type 1} (𝓤 : URA M) (H : Heap 𝓤) (A : Atoms 𝓤) (W : Given
     (τa τn τc τe : Ty) (ν : Sym) (τs : Tys) (dc da : ℕ) (has-c : fieldAt 0 τs 0 ≡ found (τc, dc)) (has-a : fieldAt 0 τs 1 ≡ found (τa, da))
     (R : RattleType) (mir-is : R .mir ≡ τc ∷ []) (low : R .Denot → Val) (tells : Tells R (Is R) (λ c. low c ∷ []))
     (typed : (c : R .Denot) → Is R c (low c ∷ []) → Fits τc (low c))
-    -- what is passed: the record behind a reference, what is expected, whether the line closed, and three slices
-    (κ : Lft) (q : Share) (b o : ℕ) (γ : GName) (h : R .Denot) (e : Val) (fits-e : Fits τe e) (z : Bool) (pp xp yp : ℕ × ℕ) (pn xn yn : ℕ)
-    (room-p : Fits (sliceTy (tyRef (named 1) imm (tyInt w8))) (sliceVal pp pn)) (room-x : Fits (sliceTy (tyRef (named 2) mut (tyInt w8))) (sliceVal xp xn))
-    (room-y : Fits (sliceTy (tyRef (named 3) mut (tyInt w16))) (sliceVal yp yn))
+    -- what is passed: the record behind a reference, what is expected, whether the line closed, and five slices
+    (κ : Lft) (q : Share) (b o : ℕ) (γ : GName) (h : R .Denot) (e : Val) (fits-e : Fits τe e) (z : Bool) (pp gp kp xp yp : ℕ × ℕ)
+    (pn gn kn xn yn : ℕ)
+    (room-p : Fits (sliceTy (tyRef (named 1) imm (tyInt w8))) (sliceVal pp pn)) (room-g : Fits (sliceTy (tyRef (named 2) imm (tyInt w16))) (sliceVal gp gn))
+    (room-k : Fits (sliceTy (tyRef (named 3) imm (tyInt w16))) (sliceVal kp kn)) (room-x : Fits (sliceTy (tyRef (named 4) mut (tyInt w8))) (sliceVal xp xn))
+    (room-y : Fits (sliceTy (tyRef (named 5) mut (tyInt w16))) (sliceVal yp yn))
     -- what is owned beside the record, and the callee: what it asks and what it gives
     (Tokens : Item 𝓤) (Rest : Fml) (f : Name) (Pre : SProp 𝓤) (Gives : Val → SProp 𝓤)
     (goes : Is R h (low h ∷ []) → ent 𝓤 (sep 𝓤 (mean 𝓤 H A Tokens) (sem 𝓤 H A Rest)) Pre)
-    (known : ent 𝓤 Pre (C f (low h ∷ e ∷ vbool z ∷ sliceVal pp pn ∷ sliceVal xp xn ∷ sliceVal yp yn ∷ []) Gives))
+    (known : ent 𝓤 Pre (C f (low h ∷ e ∷ vbool z ∷ sliceVal pp pn ∷ sliceVal gp gn ∷ sliceVal kp kn ∷ sliceVal xp xn ∷ sliceVal yp yn ∷ []) Gives))
     -- its results, each with what is known of it at a machine value, and what is owned with it
     (X : Type 0) (Got : X → Val → Type 0) (Out : X → Item 𝓤) (record-of : X → R .Denot) (answer-of : X → Val)
     (after : (w : Val) → ent 𝓤 (Gives w) (mean 𝓤 H A (later (some (λ (x : X). given (Got x w) (Tokens ⊛ Out x))))))
@@ -131,7 +135,7 @@ module _ {M : Type 1} (𝓤 : URA M) (H : Heap 𝓤) (A : Atoms 𝓤) (W : Given
     (exits : (x : X) (w : Val) → Got x w → ent 𝓤 (⋆ 𝓤 H A
     (‵ (fobs γ (R .coded .code (record-of x))) ∷ ‵ (fbor κ (Body (mem R) b o γ)) ∷ ‵ (flft κ q) ∷ Tokens ∷ Out x ∷ [])) (Post (answer-of x))) where
   abbrev handing : List Val
-  handing = vptr b o ∷ e ∷ vbool z ∷ sliceVal pp pn ∷ sliceVal xp xn ∷ sliceVal yp yn ∷ []
+  handing = vptr b o ∷ e ∷ vbool z ∷ sliceVal pp pn ∷ sliceVal gp gn ∷ sliceVal kp kn ∷ sliceVal xp xn ∷ sliceVal yp yn ∷ []
 
   abbrev Entry : List (Item 𝓤)
   Entry = (‵ (flft κ q) ⊛ Tokens) ∷ ‵ (fsep (MutRef (named 0) κ R .own (record { ptr = (b, o); name = γ; now = h }) (vptr b o ∷ [])) Rest) ∷ []
@@ -140,16 +144,17 @@ module _ {M : Type 1} (𝓤 : URA M) (H : Heap 𝓤) (A : Atoms 𝓤) (W : Given
   ways =
       qed W Entry ∵ enter ! C Λ (made τa τn τc τe ν τs f) handing Post $
       alloc1 ! (λ l₀. alloc1 ! (λ l₁. alloc1 ! (λ l₂. alloc1 ! (λ l₃. alloc1 ! (λ l₄. alloc1 ! (λ l₅. alloc1 ! (λ l₆.
-      alloc1 ! (λ l₇. alloc1 ! (λ l₈. alloc1 ! (λ l₉. alloc1 ! (λ l₁₀. alloc1 ! (λ l₁₁. alloc1 ! (λ l₁₂. alloc0 ! $ params1 ! $
-      pass1 ! (init ! 22 refl (tt, tt)) $ pass1 ! (init ! 20 refl fits-e) $ pass1 ! (init ! 18 refl (tt, tt)) $
-      pass1 ! (init ! 16 refl room-p) $ pass1 ! (init ! 14 refl room-x) $ pass1 ! (init ! 12 refl room-y) $ pass0 ! $
+      alloc1 ! (λ l₇. alloc1 ! (λ l₈. alloc1 ! (λ l₉. alloc1 ! (λ l₁₀. alloc1 ! (λ l₁₁. alloc1 ! (λ l₁₂.
+      alloc1 ! (λ l₁₃. alloc1 ! (λ l₁₄. alloc0 ! $ params1 ! $
+      pass1 ! (init ! 26 refl (tt, tt)) $ pass1 ! (init ! 24 refl fits-e) $ pass1 ! (init ! 22 refl (tt, tt)) $
+      pass1 ! (init ! 20 refl room-p) $ pass1 ! (init ! 18 refl room-g) $ pass1 ! (init ! 16 refl room-k) $ pass1 ! (init ! 14 refl room-x) $ pass1 ! (init ! 12 refl room-y) $ pass0 ! $
       -- the record's borrow is opened
-      move ! (27 ∷ []) $ fsplit ! $ fsplit3 ! $ drop ! $ move ! (29 ∷ []) $ split ! $ move ! (2 ∷ 3 ∷ 0 ∷ []) $ opens ! tt R {h = h} b o (λ vs.
+      move ! (31 ∷ []) $ fsplit ! $ fsplit3 ! $ drop ! $ move ! (33 ∷ []) $ split ! $ move ! (2 ∷ 3 ∷ 0 ∷ []) $ opens ! tt R {h = h} b o (λ vs.
       spelt ! R (Is R) (shows 𝓤 H A R) (λ c. low c ∷ []) tells fullShare h vs b o $
       rewrite ! 0 (λ (σs : List Ty). ‵ (cellAt fullShare σs (low h ∷ []) b o)) mir-is refl $
       move ! (1 ∷ []) $ peeks ! R (Is R) (shows 𝓤 H A R) h (low h ∷ []) (λ was. move ! (1 ∷ 0 ∷ []) $
-      -- [the record's cell; what it owns; the open borrow; obs; auth; the other tokens; what all else owns; _12; …; _11; …; …; _1; …; room for _0; …]
-      assigns ! (of-opd ! (load ! (from ! (hop ! (look ! 29 refl) (stop !))) (look-raw ! 0 refl))) (from ! (stop !)) (init ! 15 refl (typed h was)) $
+      -- [the record's cell; what it owns; the open borrow; obs; auth; the other tokens; what all else owns; _14; …; _13; …; …; _1; …; room for _0; …]
+      assigns ! (of-opd ! (load ! (from ! (hop ! (look ! 33 refl) (stop !))) (look-raw ! 0 refl))) (from ! (stop !)) (init ! 15 refl (typed h was)) $
       assigns ! (addr ! (from ! (fld ! refl (hop ! (look-in ! 21 (sub ! 0 refl (whole !))) (stop !))))) (from ! (stop !)) (init ! 13 refl (tt, tt)) $
       assigns ! (agg ! (and-then ! (load ! (from ! (stop !)) (look ! 13 refl))
       (and-then ! (load ! (from ! (fld ! refl (stop !))) (look-in ! 21 (sub ! 1 refl (whole !)))) (no-more !)))) (from ! (stop !)) (init ! 11 refl room-x) $
@@ -158,30 +163,31 @@ module _ {M : Type 1} (𝓤 : URA M) (H : Heap 𝓤) (A : Atoms 𝓤) (W : Given
       (and-then ! (load ! (from ! (fld ! refl (stop !))) (look-in ! 19 (sub ! 1 refl (whole !)))) (no-more !)))) (from ! (stop !)) (init ! 7 refl room-y) $
       -- the step is called
       move ! (5 ∷ 6 ∷ []) $ use2 W (raw Pre) (goes was) $
-      calls-from ! fm (raw Pre) (low h ∷ e ∷ vbool z ∷ sliceVal pp pn ∷ sliceVal xp xn ∷ sliceVal yp yn ∷ []) Gives known
-      (and-then ! (load ! (from ! (stop !)) (look ! 14 refl)) (and-then ! (load ! (from ! (stop !)) (look ! 26 refl))
+      calls-from ! fm (raw Pre) (low h ∷ e ∷ vbool z ∷ sliceVal pp pn ∷ sliceVal gp gn ∷ sliceVal kp kn ∷ sliceVal xp xn ∷ sliceVal yp yn ∷ []) Gives known
+      (and-then ! (load ! (from ! (stop !)) (look ! 14 refl)) (and-then ! (load ! (from ! (stop !)) (look ! 30 refl))
+      (and-then ! (load ! (from ! (stop !)) (look ! 28 refl)) (and-then ! (load ! (from ! (stop !)) (look ! 26 refl))
       (and-then ! (load ! (from ! (stop !)) (look ! 24 refl)) (and-then ! (load ! (from ! (stop !)) (look ! 22 refl))
-      (and-then ! (load ! (from ! (stop !)) (look ! 10 refl)) (and-then ! (load ! (from ! (stop !)) (look ! 6 refl)) (no-more !))))))) (λ w.
+      (and-then ! (load ! (from ! (stop !)) (look ! 10 refl)) (and-then ! (load ! (from ! (stop !)) (look ! 6 refl)) (no-more !))))))))) (λ w.
       use1 W (later (some (λ (x : X). given (Got x w) (Tokens ⊛ Out x)))) (after w) $ await ! tt $ pick ! (λ x. learn ! (λ got. split ! $
       -- [the other tokens; what is owned with the result; the record's cell; …]
       land ! (from ! (stop !)) (init ! 17 refl (got-fits x w got)) $
-      rewrite ! 17 (λ (u : Val). ‵ (fat fullShare (tyStruct ν τs) l₇ 0 u)) (got-is x w got) refl $
+      rewrite ! 17 (λ (u : Val). ‵ (fat fullShare (tyStruct ν τs) l₉ 0 u)) (got-is x w got) refl $
       -- the record that it returned is stored, and the answer is returned
-      assigns ! (of-opd ! (load ! (from ! (fld ! has-c (stop !))) (look-in ! 17 (sub ! 0 has-c (whole !))))) (from ! (hop ! (look ! 29 refl) (stop !)))
+      assigns ! (of-opd ! (load ! (from ! (fld ! has-c (stop !))) (look-in ! 17 (sub ! 0 has-c (whole !))))) (from ! (hop ! (look ! 33 refl) (stop !)))
       (store-raw ! 2 refl (typed (record-of x) (got-c x w got))) $
-      assigns ! (of-opd ! (load ! (from ! (fld ! has-a (stop !))) (look-in ! 17 (sub ! 1 has-a (whole !))))) (from ! (stop !)) (init ! 31 refl (got-a x w got)) $
+      assigns ! (of-opd ! (load ! (from ! (fld ! has-a (stop !))) (look-in ! 17 (sub ! 1 has-a (whole !))))) (from ! (stop !)) (init ! 35 refl (got-a x w got)) $
       -- the borrow is closed at it
       move ! (3 ∷ []) $ drop ! $ move ! (2 ∷ 3 ∷ 4 ∷ 5 ∷ []) $
       rewrite ! 0 (λ (σs : List Ty). ‵ (cellAt fullShare σs (low (record-of x) ∷ []) b o)) (sym mir-is) refl $
       use0 W (‵ (R .own (record-of x) (low (record-of x) ∷ []))) (makes (record-of x) (got-c x w got)) $
       move ! (1 ∷ 0 ∷ []) $ closes ! tt R (record-of x) (low (record-of x) ∷ []) b o $
-      -- [obs; the borrow; its token; the other tokens; what is owned with the result; _12; …]
-      returns ! (look ! 29 refl) $ forget ! 5 refl $ forget ! 7 refl $ forget ! 9 refl $ forget ! 11 refl $ forget ! 13 refl $ forget ! 15 refl $
-      forget ! 17 refl $ forget ! 19 refl $ forget ! 21 refl $ forget ! 23 refl $ forget ! 25 refl $ forget ! 27 refl $ forget ! 29 refl $
-      move ! (29 ∷ 30 ∷ []) $ free1 ! $ move ! (27 ∷ 28 ∷ []) $ free1 ! $ move ! (25 ∷ 26 ∷ []) $ free1 ! $ move ! (23 ∷ 24 ∷ []) $ free1 ! $
-      move ! (21 ∷ 22 ∷ []) $ free1 ! $ move ! (19 ∷ 20 ∷ []) $ free1 ! $ move ! (17 ∷ 18 ∷ []) $ free1 ! $ move ! (15 ∷ 16 ∷ []) $ free1 ! $
-      move ! (13 ∷ 14 ∷ []) $ free1 ! $ move ! (11 ∷ 12 ∷ []) $ free1 ! $ move ! (9 ∷ 10 ∷ []) $ free1 ! $ move ! (7 ∷ 8 ∷ []) $ free1 ! $
-      move ! (5 ∷ 6 ∷ []) $ free1 ! $ free0 ! $ by ! (exits x w got)))))))))))))))))))
+      -- [obs; the borrow; its token; the other tokens; what is owned with the result; _14; …]
+      returns ! (look ! 33 refl) $ forget ! 5 refl $ forget ! 7 refl $ forget ! 9 refl $ forget ! 11 refl $ forget ! 13 refl $ forget ! 15 refl $
+      forget ! 17 refl $ forget ! 19 refl $ forget ! 21 refl $ forget ! 23 refl $ forget ! 25 refl $ forget ! 27 refl $ forget ! 29 refl $ forget ! 31 refl $ forget ! 33 refl $
+      move ! (33 ∷ 34 ∷ []) $ free1 ! $ move ! (31 ∷ 32 ∷ []) $ free1 ! $ move ! (29 ∷ 30 ∷ []) $ free1 ! $ move ! (27 ∷ 28 ∷ []) $ free1 ! $
+      move ! (25 ∷ 26 ∷ []) $ free1 ! $ move ! (23 ∷ 24 ∷ []) $ free1 ! $ move ! (21 ∷ 22 ∷ []) $ free1 ! $ move ! (19 ∷ 20 ∷ []) $ free1 ! $
+      move ! (17 ∷ 18 ∷ []) $ free1 ! $ move ! (15 ∷ 16 ∷ []) $ free1 ! $ move ! (13 ∷ 14 ∷ []) $ free1 ! $ move ! (11 ∷ 12 ∷ []) $ free1 ! $
+      move ! (9 ∷ 10 ∷ []) $ free1 ! $ move ! (7 ∷ 8 ∷ []) $ free1 ! $ move ! (5 ∷ 6 ∷ []) $ free1 ! $ free0 ! $ by ! (exits x w got)))))))))))))))))))))
 
 -- ---- the types put in
 
@@ -192,7 +198,16 @@ stayed = (
     stay-dropped (plain (λ _. R.the-row)) yes,
     (
       stay-dropped (plain (λ _. bool)) yes,
-      (stay-dropped (shrSliceOf (1 ∷ []) tt (plain (λ _. u8))) yes, (gave-slice (2 ∷ []) tt (plain (λ _. u8)), (gave-slice (3 ∷ []) tt (plain (λ _. u16)), tt))),
+      (
+        stay-dropped (shrSliceOf (1 ∷ []) tt (plain (λ _. u8))) yes,
+        (
+          stay-dropped (shrSliceOf (2 ∷ []) tt (plain (λ _. u16))) yes,
+          (
+            stay-dropped (shrSliceOf (3 ∷ []) tt (plain (λ _. u16))) yes,
+            (gave-slice (4 ∷ []) tt (plain (λ _. u8)), (gave-slice (5 ∷ []) tt (plain (λ _. u16)), tt)),
+          ),
+        ),
+      ),
     ),
   ),
 )
@@ -213,22 +228,22 @@ av x = EL.vals N.the-type N′.the-laws x
 
 -- what is passed beside the record, and its machine values
 abbrev Beside : Type 0
-Beside = Expected × (Bool × (RefT (List ℕ) × (RefT (List ℕ) × (RefT (List ℕ) × Unit {0}))))
+Beside = Expected × (Bool × (RefT (List ℕ) × (RefT (List ℕ) × (RefT (List ℕ) × (RefT (List ℕ) × (RefT (List ℕ) × Unit {0}))))))
 
 abbrev Vals : Type 0
-Vals = List Val × (List Val × (List Val × (List Val × (List Val × Unit {0}))))
+Vals = List Val × (List Val × (List Val × (List Val × (List Val × (List Val × (List Val × Unit {0}))))))
 
 -- what is bound for the step's parameters at exit: the last lists of the buffer and the table
 abbrev Ends : Type 0
-Ends = Unit {0} × (Unit {0} × (Unit {0} × (Unit {0} × (List ℕ × (List ℕ × Unit {0})))))
+Ends = Unit {0} × (Unit {0} × (Unit {0} × (Unit {0} × (Unit {0} × (Unit {0} × (List ℕ × (List ℕ × Unit {0})))))))
 
 module _ {M : Type 1} (𝓤 : URA M) (H : Heap 𝓤) (A : Atoms 𝓤) (W : Given 𝓤 H A) (at-mem : Memory → SProp 𝓤) (run : Routine → Fun 𝓤)
-    (κ κ₁ κ₂ κ₃ : Lft) (q q₁ q₂ q₃ : Share) (b o : ℕ) (γ : GName) (h : Connection) (d : Expected) (f : Bool) (p x y : RefT (List ℕ)) where
+    (κ κ₁ κ₂ κ₃ κ₄ κ₅ : Lft) (q q₁ q₂ q₃ q₄ q₅ : Share) (b o : ℕ) (γ : GName) (h : Connection) (d : Expected) (f : Bool) (p g k x y : RefT (List ℕ)) where
   abbrev beside : Beside
-  beside = (d, (f, (p, (x, (y, tt)))))
+  beside = (d, (f, (p, (g, (k, (x, (y, tt)))))))
 
   abbrev vals : Vals
-  vals = (rv d, (bool-vals f, (slice-vals p, (slice-vals x, (slice-vals y, tt)))))
+  vals = (rv d, (bool-vals f, (slice-vals p, (slice-vals g, (slice-vals k, (slice-vals x, (slice-vals y, tt)))))))
 
   -- what the function's triple binds outside, and the step's
   abbrev a : RefT Connection × Beside
@@ -241,7 +256,7 @@ module _ {M : Type 1} (𝓤 : URA M) (H : Heap 𝓤) (A : Atoms 𝓤) (W : Given
   Clauses = thin.clauses 𝓤 H A at-mem run
 
   abbrev bound : walkOf 𝓤 H A thin.ended stayed Clauses .Ghost
-  bound = (((κ, (κ₁, (κ₂, (κ₃, tt)))), (q, (q₁, (q₂, (q₃, tt)))), tt, a, at), tt)
+  bound = (((κ, (κ₁, (κ₂, (κ₃, (κ₄, (κ₅, tt)))))), (q, (q₁, (q₂, (q₃, (q₄, (q₅, tt)))))), tt, a, at), tt)
 
   abbrev Post : Val → SProp 𝓤
   Post = walkOf 𝓤 H A thin.ended stayed Clauses .post bound
@@ -250,14 +265,16 @@ module _ {M : Type 1} (𝓤 : URA M) (H : Heap 𝓤) (A : Atoms 𝓤) (W : Given
   sa = (h, beside)
 
   abbrev to-step : Step 𝓤 H A at-mem run .Ghost
-  to-step = (((κ₁, (κ₂, (κ₃, tt))), (q₁, (q₂, (q₃, tt))), tt, sa, (cv h, vals)), tt)
+  to-step = (((κ₁, (κ₂, (κ₃, (κ₄, (κ₅, tt))))), (q₁, (q₂, (q₃, (q₄, (q₅, tt))))), tt, sa, (cv h, vals)), tt)
 
   -- the tokens that the step is handed, and what is owned beside the record
   abbrev Tokens : Item 𝓤
-  Tokens = ‵ (flft κ₁ q₁) ⊛ ‵ (flft κ₂ q₂) ⊛ ‵ (flft κ₃ q₃) ⊛ ‵ ftrue
+  Tokens = ‵ (flft κ₁ q₁) ⊛ ‵ (flft κ₂ q₂) ⊛ ‵ (flft κ₃ q₃) ⊛ ‵ (flft κ₄ q₄) ⊛ ‵ (flft κ₅ q₅) ⊛ ‵ ftrue
 
   abbrev Rest : base.Fml.Fml
-  Rest = owns (R.the-row ∷ bool ∷ ShrSlice (named 1) κ₁ u8 ∷ MutSlice (named 2) κ₂ u8 ∷ MutSlice (named 3) κ₃ u16 ∷ []) beside vals
+  Rest =
+      owns (R.the-row ∷ bool ∷ ShrSlice (named 1) κ₁ u8 ∷ ShrSlice (named 2) κ₂ u16 ∷ ShrSlice (named 3) κ₃ u16 ∷ MutSlice (named 4) κ₄ u8
+      ∷ MutSlice (named 5) κ₅ u16 ∷ []) beside vals
 
   goes : Is T.the-row h (cv h) → ent 𝓤 (⋆ 𝓤 H A (Tokens ∷ ‵ Rest ∷ [])) (Step 𝓤 H A at-mem run .pre to-step)
   goes was =
@@ -266,10 +283,10 @@ module _ {M : Type 1} (𝓤 : URA M) (H : Heap 𝓤) (A : Atoms 𝓤) (W : Given
 
   -- what the step says of its result r and of the last lists of the buffer and the table
   abbrev Said : Handed → List ℕ → List ℕ → Type 0
-  Said r xs ys = HandsOver h d (p .now) f (x .now) (y .now) r xs ys
+  Said r xs ys = HandsOver h d (p .now) f (g .now) (k .now) (x .now) (y .now) r xs ys
 
   abbrev SaidAt : Handed → Ends → Type 0
-  SaidAt r zs = Said r (zs .1 .1 .1 .1 .0) (zs .1 .1 .1 .1 .1 .0)
+  SaidAt r zs = Said r (zs .1 .1 .1 .1 .1 .1 .0) (zs .1 .1 .1 .1 .1 .1 .1 .0)
 
   -- what is had at exit: obs; the borrow; the token; the other tokens; the last lists of the table and the buffer
   abbrev Had : Handed → List ℕ → List ℕ → List (Item 𝓤)
@@ -282,11 +299,11 @@ module _ {M : Type 1} (𝓤 : URA M) (H : Heap 𝓤) (A : Atoms 𝓤) (W : Given
   exits r xs ys e l m is =
       qed W (Had r xs ys) ∵
       suffices ! _ (ends-at 𝓤 H A thin.ended stayed Clauses W bound (EL.val N.the-type N′.the-laws (r .answer)) (r .answer)
-      (r .connection, (tt, (tt, (tt, (xs, (ys, tt)))))) (tt, (tt, (tt, (tt, (l, (m, tt))))))) $
+      (r .connection, (tt, (tt, (tt, (tt, (tt, (xs, (ys, tt)))))))) (tt, (tt, (tt, (tt, (tt, (tt, (l, (m, tt))))))))) $
       says ! e $
       move ! (2 ∷ 3 ∷ []) $ join ! $ frame ! $ feqI ! (List Val) (vptr b o ∷ []) (vptr b o ∷ []) refl $ fjoin3 ! $
       nothing ! $ move ! (2 ∷ 0 ∷ []) $ fjoin ! $ move ! (2 ∷ 0 ∷ []) $ fjoin ! $ nothing ! $ fjoin ! $ nothing ! $ fjoin ! $ nothing ! $ fjoin ! $
-      move ! (1 ∷ 0 ∷ []) $ fjoin ! $
+      nothing ! $ fjoin ! $ nothing ! $ fjoin ! $ move ! (1 ∷ 0 ∷ []) $ fjoin ! $
       owned ! N.the-row (Is N.the-row) (EL.makes N.the-type N′.the-plain 𝓤 H A) (r .answer) _ is $ move ! (1 ∷ 0 ∷ []) $ done !
 
   -- what the step gives: its result, the last lists of the buffer and the table, and what is known of them at the machine value returned
@@ -308,30 +325,33 @@ module _ {M : Type 1} (𝓤 : URA M) (H : Heap 𝓤) (A : Atoms 𝓤) (W : Given
   gives : (w : Val) → ent 𝓤 (Step 𝓤 H A at-mem run .post to-step w) (mean 𝓤 H A (later (some (Gave w))))
   gives w =
       qed W (later (some (λ (r : Handed). (Tokens ⊛ ‵ (S.the-row .own r (w ∷ [])))
-      ⊛ some (λ (zs : Ends). ‵ (lasts step.ended (κ₁, (κ₂, (κ₃, tt))) sa zs) ⊛ raw (fact 𝓤 (SaidAt r zs))))) ∷ []) ∵
+      ⊛ some (λ (zs : Ends). ‵ (lasts step.ended (κ₁, (κ₂, (κ₃, (κ₄, (κ₅, tt))))) sa zs) ⊛ raw (fact 𝓤 (SaidAt r zs))))) ∷ []) ∵
       updating ! $ await ! tt $ pick ! (λ r. split ! $ move ! (1 ∷ []) $ pick ! (λ zs. split ! $ move ! (1 ∷ []) $ heard ! (SaidAt r zs) (λ e.
-      fsplit ! $ drop ! $ fsplit ! $ drop ! $ fsplit ! $ drop ! $ fsplit ! $ drop ! $ fsplit ! $ fsplit ! $ move ! (1 ∷ []) $ feqL ! (λ l. move ! (1 ∷ []) $
+      fsplit ! $ drop ! $ fsplit ! $ drop ! $ fsplit ! $ drop ! $ fsplit ! $ drop ! $ fsplit ! $ drop ! $ fsplit ! $ drop ! $
+      fsplit ! $ fsplit ! $ move ! (1 ∷ []) $ feqL ! (λ l. move ! (1 ∷ []) $
       fsplit ! $ fsplit ! $ move ! (1 ∷ []) $ feqL ! (λ m. move ! (1 ∷ []) $ drop ! $
       -- [the table's last list; the buffer's; the tokens and the result]
       move ! (2 ∷ []) $ split ! $ move ! (1 ∷ []) $ peeks ! S.the-row (Is S.the-row) (shows 𝓤 H A S.the-row) r (w ∷ []) (λ is. drop ! $ at-once ! $
-      by ! (gave w (r, (zs .1 .1 .1 .1 .0, zs .1 .1 .1 .1 .1 .0)) (is, (e, (l, m))))))))))
+      by ! (gave w (r, (zs .1 .1 .1 .1 .1 .1 .0, zs .1 .1 .1 .1 .1 .1 .1 .0)) (is, (e, (l, m))))))))))
 
   -- the arguments' machine values in a row
   abbrev passed : List Val
   passed =
-      vptr b o ∷ EL.val R.the-type R′.the-laws d ∷ vbool f ∷ sliceVal (p .ptr) (length (p .now)) ∷ sliceVal (x .ptr) (length (x .now))
-      ∷ sliceVal (y .ptr) (length (y .now)) ∷ []
+      vptr b o ∷ EL.val R.the-type R′.the-laws d ∷ vbool f ∷ sliceVal (p .ptr) (length (p .now)) ∷ sliceVal (g .ptr) (length (g .now))
+      ∷ sliceVal (k .ptr) (length (k .now)) ∷ sliceVal (x .ptr) (length (x .now)) ∷ sliceVal (y .ptr) (length (y .now)) ∷ []
 
   module _ (C : Calls 𝓤 H) (Λ : Loops 𝓤 H) (fm : FmC 𝓤 H (W .laws) C) (known : Triple 𝓤 (C #step) (Step 𝓤 H A at-mem run)) where
-    walk : Is R.the-row d (rv d) → Room u8 (length (p .now)) → Room u8 (length (x .now)) → Room u16 (length (y .now))
-        → ent 𝓤 (onEntry 𝓤 H A thin.signature (κ, (κ₁, (κ₂, (κ₃, tt)))) (q, (q₁, (q₂, (q₃, tt)))) a at) (WpFn 𝓤 H C Λ code.function passed Post)
-    walk reads room₁ room₂ room₃ =
+    walk : Is R.the-row d (rv d) → Room u8 (length (p .now)) → Room u16 (length (g .now)) → Room u16 (length (k .now)) → Room u8 (length (x .now)) → Room u16 (length (y .now))
+        → ent 𝓤 (onEntry 𝓤 H A thin.signature (κ, (κ₁, (κ₂, (κ₃, (κ₄, (κ₅, tt)))))) (q, (q₁, (q₂, (q₃, (q₄, (q₅, tt)))))) a at)
+        (WpFn 𝓤 H C Λ code.function passed Post)
+    walk reads room₁ room₂ room₃ room₄ room₅ =
         ways 𝓤 H A W C Λ fm N′.mir (pointee (T.the-row .written)) T′.mir R′.mir (S.struct .name) (tcons T′.mir (tcons N′.mir tnil)) _ _ refl refl
         T.the-row refl (LL.val T.the-type T′.the-laws) (LL.tells T.the-type T′.the-laws)
         (λ c was. LL.lawful T.the-type T′.the-laws 𝓤 H A W .typed c _ was .0)
-        κ q b o γ h (EL.val R.the-type R′.the-laws d) (EL.lawful R.the-type R′.the-laws 𝓤 H A W tt .typed d _ reads .0) f (p .ptr) (x .ptr) (y .ptr)
-        (length (p .now)) (length (x .now)) (length (y .now)) (tt, (tt, (record { fits = room₁ .0 }, tt))) (tt, (tt, (record { fits = room₂ .0 }, tt)))
-        (tt, (tt, (record { fits = room₃ .0 }, tt)))
+        κ q b o γ h (EL.val R.the-type R′.the-laws d) (EL.lawful R.the-type R′.the-laws 𝓤 H A W tt .typed d _ reads .0) f (p .ptr) (g .ptr) (k .ptr)
+        (x .ptr) (y .ptr) (length (p .now)) (length (g .now)) (length (k .now)) (length (x .now)) (length (y .now))
+        (tt, (tt, (record { fits = room₁ .0 }, tt))) (tt, (tt, (record { fits = room₂ .0 }, tt))) (tt, (tt, (record { fits = room₃ .0 }, tt)))
+        (tt, (tt, (record { fits = room₄ .0 }, tt))) (tt, (tt, (record { fits = room₅ .0 }, tt)))
         Tokens Rest #step (Step 𝓤 H A at-mem run .pre to-step) (Step 𝓤 H A at-mem run .post to-step) goes (known to-step)
         Results Got Out (λ s. s .0 .connection) (λ s. EL.val N.the-type N′.the-laws (s .0 .answer)) gives
         (λ s w got. ap only (LL.tells S.the-type S′.the-laws (s .0) _ (got .0)))
@@ -346,7 +366,7 @@ module _ {M : Type 1} (𝓤 : URA M) (H : Heap 𝓤) (A : Atoms 𝓤) (W : Given
       → Walks 𝓤 H A thin.ended stayed (WpFn 𝓤 H C Λ code.function) (thin.clauses 𝓤 H A at-mem run)
   thin-walks C Λ fm known =
       walked 𝓤 H A thin.ended stayed (thin.clauses 𝓤 H A at-mem run) (WpFn 𝓤 H C Λ code.function)
-      (λ κs. (ptr-vals, (rv, (bool-vals, (slice-vals, (slice-vals, (slice-vals, tt)))))))
+      (λ κs. (ptr-vals, (rv, (bool-vals, (slice-vals, (slice-vals, (slice-vals, (slice-vals, (slice-vals, tt)))))))))
       (λ κs. (
         mut-tells (named 0) (κs .0) T.the-row,
         (
@@ -355,26 +375,41 @@ module _ {M : Type 1} (𝓤 : URA M) (H : Heap 𝓤) (A : Atoms 𝓤) (W : Given
             bool-tells,
             (
               shr-slice-tells (named 1) (κs .1 .0) u8,
-              (mut-slice-tells (named 2) (κs .1 .1 .0) u8, (mut-slice-tells (named 3) (κs .1 .1 .1 .0) u16, tt)),
+              (
+                shr-slice-tells (named 2) (κs .1 .1 .0) u16,
+                (
+                  shr-slice-tells (named 3) (κs .1 .1 .1 .0) u16,
+                  (mut-slice-tells (named 4) (κs .1 .1 .1 .1 .0) u8, (mut-slice-tells (named 5) (κs .1 .1 .1 .1 .1 .0) u16, tt)),
+                ),
+              ),
             ),
           ),
         ),
       ))
       (λ κs qs bounds a _ are. via 𝓤 _ (fst∗ 𝓤 _ (emp 𝓤))
-      (walk 𝓤 H A W at-mem run (κs .0) (κs .1 .0) (κs .1 .1 .0) (κs .1 .1 .1 .0) (qs .0) (qs .1 .0) (qs .1 .1 .0) (qs .1 .1 .1 .0)
-      (a .0 .ptr .0) (a .0 .ptr .1) (a .0 .name) (a .0 .now) (a .1 .0) (a .1 .1 .0) (a .1 .1 .1 .0) (a .1 .1 .1 .1 .0) (a .1 .1 .1 .1 .1 .0)
-      C Λ fm known (are .1 .0) (are .1 .1 .1 .0 .0 .1) (are .1 .1 .1 .1 .0 .0 .1) (are .1 .1 .1 .1 .1 .0 .0 .1)))
+      (walk 𝓤 H A W at-mem run (κs .0) (κs .1 .0) (κs .1 .1 .0) (κs .1 .1 .1 .0) (κs .1 .1 .1 .1 .0) (κs .1 .1 .1 .1 .1 .0)
+      (qs .0) (qs .1 .0) (qs .1 .1 .0) (qs .1 .1 .1 .0) (qs .1 .1 .1 .1 .0) (qs .1 .1 .1 .1 .1 .0)
+      (a .0 .ptr .0) (a .0 .ptr .1) (a .0 .name) (a .0 .now) (a .1 .0) (a .1 .1 .0) (a .1 .1 .1 .0) (a .1 .1 .1 .1 .0)
+      (a .1 .1 .1 .1 .1 .0) (a .1 .1 .1 .1 .1 .1 .0) (a .1 .1 .1 .1 .1 .1 .1 .0)
+      C Λ fm known (are .1 .0) (are .1 .1 .1 .0 .0 .1) (are .1 .1 .1 .1 .0 .0 .1)
+      (are .1 .1 .1 .1 .1 .0 .0 .1) (are .1 .1 .1 .1 .1 .1 .0 .0 .1) (are .1 .1 .1 .1 .1 .1 .1 .0 .0 .1)))
 
-  goes-all : AllGo 𝓤 H A W 4 (thin.signature .params) (thin.ended .kept) stayed
+  goes-all : AllGo 𝓤 H A W 6 (thin.signature .params) (thin.ended .kept) stayed
   goes-all = (
-    goes-ref 𝓤 H A W 4 0 tt (plain (λ _. T.the-row)),
+    goes-ref 𝓤 H A W 6 0 tt (plain (λ _. T.the-row)),
     (
-      goes-dropped 𝓤 H A W 4 (plain (λ _. R.the-row)) yes (λ κs x f. refl),
+      goes-dropped 𝓤 H A W 6 (plain (λ _. R.the-row)) yes (λ κs x f. refl),
       (
-        goes-dropped 𝓤 H A W 4 (plain (λ _. bool)) yes (λ κs x f. refl),
+        goes-dropped 𝓤 H A W 6 (plain (λ _. bool)) yes (λ κs x f. refl),
         (
-          goes-dropped 𝓤 H A W 4 (shrSliceOf (1 ∷ []) tt (plain (λ _. u8))) yes (λ κs x f. refl),
-          (goes-gave-slice 𝓤 H A W 4 2 tt (plain (λ _. u8)), (goes-gave-slice 𝓤 H A W 4 3 tt (plain (λ _. u16)), tt)),
+          goes-dropped 𝓤 H A W 6 (shrSliceOf (1 ∷ []) tt (plain (λ _. u8))) yes (λ κs x f. refl),
+          (
+            goes-dropped 𝓤 H A W 6 (shrSliceOf (2 ∷ []) tt (plain (λ _. u16))) yes (λ κs x f. refl),
+            (
+              goes-dropped 𝓤 H A W 6 (shrSliceOf (3 ∷ []) tt (plain (λ _. u16))) yes (λ κs x f. refl),
+              (goes-gave-slice 𝓤 H A W 6 4 tt (plain (λ _. u8)), (goes-gave-slice 𝓤 H A W 6 5 tt (plain (λ _. u16)), tt)),
+            ),
+          ),
         ),
       ),
     ),

@@ -12,21 +12,21 @@ use Rattle.pieces.proofs.pending_reply.Statement.{statement}
 use Rattle.pieces.proofs.pending_reply.Tie as tie
 
 part-parse-end : tie.Need-part-parse-end
-part-parse-end c = gathered-inside replyRead reply-telling _ table-reader _ _ _ _ (c .before .before .before .before .before .before .before .before .before .before .before .pre) _ _ (c .before .before .before .before .before .gather .ensures)
+part-parse-end c = gathered-inside replyRead reply-telling _ table-reader _ _ _ _ (c .before .before .before .before .before .before .before .before .before .before .before .before .before .pre) _ _ (c .before .before .before .before .before .gather .ensures)
 
 returns : tie.Need-returns
-returns c = hands-waiting replyRead reply-telling _ table-reader _ _ _ _ (c .before .before .before .before .before .before .before .before .before .before .before .pre) _ _ (c .before .before .before .before .before .gather .ensures) _ _ (c .before .enum-told .given .1) _ (c .carried .ensures)
+returns c = hands-waiting replyRead reply-telling _ table-reader _ _ _ _ (c .before .before .before .before .before .before .before .before .before .before .before .before .before .pre) _ _ (c .before .before .before .before .before .gather .ensures) _ _ (c .before .enum-told .given .1) _ (c .carried .ensures)
 
 returns-2 : tie.Need-returns-2
-returns-2 c = hands-full replyRead reply-telling _ table-reader _ _ _ _ (c .before .before .before .before .before .before .before .before .before .before .before .before .before .pre) _ _ (c .before .before .before .before .before .before .before .gather .ensures) _ _ (c .before .before .before .enum-told2 .given .1) _ _ (c .before .before .no-room .ensures) (c .no-room2 .ensures) _ (c .before .carried2 .ensures)
+returns-2 c = hands-full replyRead reply-telling _ table-reader _ _ _ _ (c .before .before .before .before .before .before .before .before .before .before .before .before .before .before .before .pre) _ _ (c .before .before .before .before .before .before .before .gather .ensures) _ _ (c .before .before .before .enum-told2 .given .1) _ _ (c .before .before .no-room .ensures) (c .no-room2 .ensures) _ (c .before .carried2 .ensures)
 
 returns-3 : tie.Need-returns-3
 unfolding replies.replyOf reply-telling reply-stands
-returns-3 c = hands-decided replyRead reply-telling _ table-reader _ _ _ _ (c .before .before .before .before .before .before .before .before .before .before .before .before .before .before .before .before .before .before .before .before .pre) _ _ (c .before .before .before .before .before .before .before .before .before .before .before .before .before .before .gather .ensures) _ _ (c .before .before .before .before .before .before .before .before .before .before .enum-told3 .given .1) _ _ (sym (ap replies.toldAnswer (c .before .before .answer .given .1)) ∙ c .before .before .before .before .before .before .parse .ensures .says) (c .before .before .before .before .before .before .parse .ensures .left) state.Accepted refl _ (c .carried3 .ensures)
+returns-3 c = hands-decided replyRead reply-telling _ table-reader _ _ _ _ (c .before .before .before .before .before .before .before .before .before .before .before .before .before .before .before .before .before .before .before .before .before .before .pre) _ _ (c .before .before .before .before .before .before .before .before .before .before .before .before .before .before .gather .ensures) _ _ (c .before .before .before .before .before .before .before .before .before .before .enum-told3 .given .1) _ _ (sym (ap replies.toldAnswer (c .before .before .answer .given .1)) ∙ c .before .before .before .before .before .before .parse .ensures .says) (c .before .before .before .before .before .before .parse .ensures .left) state.Accepted refl _ (c .carried3 .ensures)
 
 returns-4 : tie.Need-returns-4
 unfolding replies.replyOf reply-telling reply-stands
-returns-4 c = hands-decided replyRead reply-telling _ table-reader _ _ _ _ (c .before .before .before .before .before .before .before .before .before .before .before .before .before .before .before .before .before .before .before .before .pre) _ _ (c .before .before .before .before .before .before .before .before .before .before .before .before .before .before .gather .ensures) _ _ (c .before .before .before .before .before .before .before .before .before .before .enum-told3 .given .1) _ _ (sym (ap replies.toldAnswer (c .before .before .answer2 .given .1)) ∙ c .before .before .before .before .before .before .parse .ensures .says) (c .before .before .before .before .before .before .parse .ensures .left) (state.Refused _) refl _ (c .carried4 .ensures)
+returns-4 c = hands-decided replyRead reply-telling _ table-reader _ _ _ _ (c .before .before .before .before .before .before .before .before .before .before .before .before .before .before .before .before .before .before .before .before .before .before .pre) _ _ (c .before .before .before .before .before .before .before .before .before .before .before .before .before .before .gather .ensures) _ _ (c .before .before .before .before .before .before .before .before .before .before .enum-told3 .given .1) _ _ (sym (ap replies.toldAnswer (c .before .before .answer2 .given .1)) ∙ c .before .before .before .before .before .before .parse .ensures .says) (c .before .before .before .before .before .before .parse .ensures .left) (state.Refused _) refl _ (c .carried4 .ensures)
 
 pub pending-reply-spec : {M : Type 1} → statement M
 pending-reply-spec =

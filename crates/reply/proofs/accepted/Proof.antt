@@ -15,10 +15,10 @@ returns : tie.Need-returns
 unfolding acceptedIn slotOf known isUnknown shapeOf rowOf
 returns c =
     let server = c .before .before .before .server-of .ensures ∙ ap (λ (x : Seen). sentIn x (record { start = x .start; len = x .len })) (c .before .before .before .before .found .ensures) in
-    let port = c .before .port-of .ensures ∙ ap (λ (x : Seen). sentIn x (numberIn (now (c .before .before .before .before .before .before .before .before .args .message)) x)) (c .before .before .found2 .ensures) in
-    cc (c .before .before .before .before .before .before .number-in .ensures, c .before .before .before .before .before .number-in2 .ensures, server, port, c .is-there .ensures)
+    let port = c .before .port-of .ensures ∙ ap (λ (x : Seen). sentIn x (numberIn (now (c .before .before .before .before .before .before .args .message)) x)) (c .before .before .found2 .ensures) in
+    cc (server, port, c .is-there .ensures)
 
 pub accepted-spec : {M : Type 1} → statement M
 accepted-spec =
     tie.close
-    (tie.spec (λ c κs. search needs) (λ c κs. search needs) (λ c κs. search needs) (λ c κs. search needs) (λ c κs. search needs) (λ c κs. search needs) (λ c κs. search needs) returns)
+    (tie.spec (λ c κs. search needs) (λ c κs. search needs) (λ c κs. search needs) (λ c κs. search needs) (λ c κs. search needs) returns)

@@ -52,35 +52,41 @@ enum-told-12 c = search needs
 enum-told-13 : tie.Need-enum-told-13
 enum-told-13 c = search needs
 
+enum-known-self-4 : tie.Need-enum-known-self-4
+enum-known-self-4 c = search needs
+
+enum-known-self-5 : tie.Need-enum-known-self-5
+enum-known-self-5 c = search needs
+
 returns : tie.Need-returns
-returns c = search needs
+returns c = rw (c .enum-told .given .1)
 
 returns-2 : tie.Need-returns-2
-returns-2 c = search needs
+returns-2 c = rw (c .enum-told2 .given .1)
 
 returns-3 : tie.Need-returns-3
-returns-3 c = search needs
+returns-3 c = rw (c .enum-told3 .given .1)
 
 returns-4 : tie.Need-returns-4
-returns-4 c = search needs
+returns-4 c = rw (c .enum-told4 .given .1)
 
 returns-5 : tie.Need-returns-5
 returns-5 c = rw (c .before .self .given .1)
 
 returns-6 : tie.Need-returns-6
-returns-6 c = search needs
+returns-6 c = rw (c .enum-told5 .given .1)
 
 returns-7 : tie.Need-returns-7
-returns-7 c = search needs
+returns-7 c = rw (c .enum-told6 .given .1)
 
 returns-8 : tie.Need-returns-8
-returns-8 c = search needs
+returns-8 c = rw (c .enum-told7 .given .1)
 
 returns-9 : tie.Need-returns-9
-returns-9 c = search needs
+returns-9 c = rw (c .enum-told8 .given .1)
 
 returns-10 : tie.Need-returns-10
-returns-10 c = search needs
+returns-10 c = rw (c .enum-told9 .given .1)
 
 returns-11 : tie.Need-returns-11
 returns-11 c = rw (c .before .self2 .given .1)
@@ -89,16 +95,22 @@ returns-12 : tie.Need-returns-12
 returns-12 c = rw (c .before .self3 .given .1)
 
 returns-13 : tie.Need-returns-13
-returns-13 c = search needs
+returns-13 c = rw (c .enum-told10 .given .1)
 
 returns-14 : tie.Need-returns-14
-returns-14 c = search needs
+returns-14 c = rw (c .enum-told11 .given .1)
 
 returns-15 : tie.Need-returns-15
-returns-15 c = search needs
+returns-15 c = rw (c .enum-told12 .given .1)
 
 returns-16 : tie.Need-returns-16
-returns-16 c = search needs
+returns-16 c = rw (c .enum-told13 .given .1)
+
+returns-17 : tie.Need-returns-17
+returns-17 c = rw (c .before .self4 .given .1)
+
+returns-18 : tie.Need-returns-18
+returns-18 c = rw (c .before .self5 .given .1)
 
 pub code-spec : {M : Type 1} → statement M
 code-spec =
@@ -120,6 +132,8 @@ code-spec =
     enum-told-11
     enum-told-12
     enum-told-13
+    enum-known-self-4
+    enum-known-self-5
     returns
     returns-2
     returns-3
@@ -135,4 +149,6 @@ code-spec =
     returns-13
     returns-14
     returns-15
-    returns-16)
+    returns-16
+    returns-17
+    returns-18)

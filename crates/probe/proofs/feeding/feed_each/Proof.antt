@@ -8,16 +8,13 @@ use Rattle.probe.proofs.feeding.feed_each.Statement.{statement}
 use Rattle.probe.proofs.feeding.feed_each.Tie as tie
 
 abbrev Inv-loop : tie.InvT-loop
-Inv-loop expected calls case buffer₀ table₀ i₀ fed₀ buffer table i fed = (length buffer ≡ length buffer₀) × (length table ≡ length table₀)
+Inv-loop expected protocols algorithms calls case buffer₀ table₀ i₀ fed₀ buffer table i fed = (length buffer ≡ length buffer₀) × (length table ≡ length table₀)
 
 abbrev μ-loop : tie.MeasureT-loop
-μ-loop expected calls case buffer₀ table₀ i₀ fed₀ buffer table i fed = calls - i
+μ-loop expected protocols algorithms calls case buffer₀ table₀ i₀ fed₀ buffer table i fed = calls - i
 
-number16-requires : tie.Need-number16-requires Inv-loop μ-loop
-number16-requires c κs = search needs
-
-start-requires : tie.Need-start-requires Inv-loop μ-loop
-start-requires c κs = search needs
+begun-requires : tie.Need-begun-requires Inv-loop μ-loop
+begun-requires c κs = search needs
 
 loop-holds : tie.Need-loop-holds Inv-loop μ-loop
 loop-holds c = search needs
@@ -49,8 +46,7 @@ feed-each-spec =
     (tie.spec
     Inv-loop
     μ-loop
-    number16-requires
-    start-requires
+    begun-requires
     loop-holds
     feed-next-requires
     add-i

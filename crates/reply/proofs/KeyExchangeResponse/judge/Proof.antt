@@ -2,13 +2,14 @@
 -- Assumes nothing.
 use denote.Ref.{now}
 use Rattle.walk.specs.Finding.{asFinding}
+use Rattle.reply.specs.Reply.{offering}
 use Rattle.reply.proofs.Answering.{judged-refused, judged-fits, judged-ended}
 use borrow.Author.Needs.{needs}
 use Rattle.reply.proofs.KeyExchangeResponse.judge.Statement.{statement}
 use Rattle.reply.proofs.KeyExchangeResponse.judge.Tie as tie
 
 decide-requires : tie.Need-decide-requires
-decide-requires c κs = judged-fits (now (c .before .before .before .before .before .before .args .message)) (c .before .before .before .before .before .before .args .limit) (c .before .before .before .before .before .before .args .room) (asFinding (c .before .before .before .walk-into .result) _) (c .before .before .before .walk-into .ensures) (c .before .enum-told .given .1)
+decide-requires c κs = judged-fits (now (c .before .before .before .before .before .before .before .before .args .message)) (c .before .before .before .before .before .before .before .before .args .limit) (offering (now (c .before .before .before .before .before .before .before .before .args .protocols)) (now (c .before .before .before .before .before .before .before .before .args .algorithms)) (c .before .before .before .before .before .before .before .before .args .room)) (asFinding (c .before .before .before .walk-into .result) _) (c .before .before .before .walk-into .ensures) (c .before .enum-told .given .1)
 
 returns : tie.Need-returns
 returns c = judged-ended _ _ _ (asFinding (c .before .before .before .before .walk-into .result) _) (c .before .before .before .before .walk-into .ensures) (c .before .before .enum-told .given .1) _ (c .decide .ensures)
