@@ -41,9 +41,10 @@
  *
  * A host that takes a message off a line need not know when it is whole: it hands over what comes,
  * as it comes (see "reading in pieces"). One that logs which records a request held, also where it
- * is refused, reads it in two calls (see "reading and deciding").
+ * is refused, reads it in two calls (see "reading and deciding"). One that shows where a sender
+ * forgot a critical bit, or added one, reads record by record (see ntske_bit_named).
  *
- * README.md has both as programs, and examples/host.c is a whole host.
+ * README.md has server and client as programs, and examples/host.c is a whole host.
  *
  * What a call returns. Every call ends with an answer for every value of its arguments. It returns
  * NTSKE_OK, or one word that is taken apart by functions and said in words by ntske_words:
@@ -59,7 +60,8 @@
  * A call that is refused changes nothing that was lent to it: no struct, no count, no table, no
  * tray, no output; of a read in pieces alone the buffer and the connection may change.
  * ntske_feed_request and ntske_feed_reply may also return NTSKE_WAITING, which is neither NTSKE_OK
- * nor a refusal. ntske_is_utf8 and ntske_version refuse nothing and return their answer.
+ * nor a refusal. ntske_bit_named, ntske_is_utf8 and ntske_version refuse nothing and return their
+ * answer.
  *
  * What the host owes, since the compiler cannot see it: a pointer is not NULL and is aligned for
  * what it points to, also where the length behind it is 0 (NTSKE_NO_BYTES and NTSKE_NO_NUMBERS are
@@ -84,8 +86,8 @@ extern "C" {
 
 /* ---- numbers --------------------------------------------------------------------------------- */
 
-/* This header's version, 0.3.0, a byte for each number. ntske_version tells the archive's. */
-#define NTSKE_VERSION 0x000300
+/* This header's version, 0.4.0, a byte for each number. ntske_version tells the archive's. */
+#define NTSKE_VERSION 0x000400
 
 /* TLS (RFC 8915, section 4): the application protocol's name (ALPN), and the port. */
 #define NTSKE_ALPN "ntske/1"
@@ -161,6 +163,12 @@ enum ntske_kinds {
     NTSKE_KIND_NTP_SERVER_DENY = 13,
     NTSKE_KIND_AUTHENTICATION = 14
 };
+
+/*
+ * The critical bit that is named for a kind: see ntske_bit_named. An unknown kind's is the one that
+ * is given, and NTSKE_BIT_GIVEN is no bit of a record.
+ */
+enum ntske_bits { NTSKE_BIT_CLEAR = 0, NTSKE_BIT_SET = 1, NTSKE_BIT_GIVEN = 2 };
 
 /*
  * Where a finding counts the records of a kind: see ntske_finding. A known kind has its own number,
@@ -266,13 +274,14 @@ struct ntske_reply {
 };
 
 /*
- * One record. The reader gives 0 for what a kind does not have. The writer asks of every kind that
- * `critical` is 0 or 1 and `number` is at most 65,535; beyond that it does not look at what a kind
- * does not have.
+ * One record. The reader gives the critical bit as it was received, of every kind, and 0 for what a
+ * kind does not have. The writer asks of every kind that `critical` is 0 or 1 and `number` is at
+ * most 65,535; beyond that it looks at `critical` of an unknown kind alone, 11 and 15 to 32,767,
+ * and not at what a kind does not have.
  */
 struct ntske_record {
     size_t kind;
-    size_t critical;                  /* of an unknown kind: 11, and 15 to 32,767 */
+    size_t critical;                  /* read: as received; written: of an unknown kind alone */
     size_t number;                    /* of kinds 2, 3 and 7 */
     struct ntske_range body;           /* of kind 12 the key from client to server */
     struct ntske_range second;         /* of kind 12 the key from server to client */
@@ -588,11 +597,34 @@ uint64_t ntske_read_reply(const uint8_t *message, size_t message_len, uint16_t l
                           size_t table_len, struct ntske_reply *answer);
 
 /*
- * The record at a place of a message, which has no limit but its length. Refusals: 1 and 2, at the
- * place that was asked for, which the word does not tell.
+ * The record at a place of a message, which has no limit but its length. Its critical bit is told
+ * as it was received, of every kind. Refusals: 1 and 2, at the place that was asked for, which the
+ * word does not tell.
  */
 uint64_t ntske_read_record(const uint8_t *message, size_t message_len, size_t place,
                            struct ntske_record_read *answer);
+
+/*
+ * The critical bit that document 01 names for a kind, which is the one that ntske_write_record
+ * writes: NTSKE_BIT_SET for 0 to 4, 6, 7, 9, 10 and 12; NTSKE_BIT_CLEAR for 5, 8, 13 and 14; and
+ * NTSKE_BIT_GIVEN for every other number, since an unknown kind has none of its own. Refuses
+ * nothing. On reading, the bit of a known kind does not count. Where a sender forgot or added it:
+ *
+ *     struct ntske_record_read read;
+ *     size_t place = 0;
+ *     uint64_t answer;
+ *     do {
+ *         answer = ntske_read_record(message, len, place, &read);
+ *         if (answer != NTSKE_OK)
+ *             break;
+ *         uint64_t named = ntske_bit_named((uint16_t)read.record.kind);
+ *         if (named != NTSKE_BIT_GIVEN && named != read.record.critical)
+ *             printf("%zu: kind %zu %s\n", place, read.record.kind,
+ *                    named == NTSKE_BIT_SET ? "without its critical bit" : "with a critical bit");
+ *         place = read.next;
+ *     } while (read.record.kind != NTSKE_KIND_END_OF_MESSAGE);
+ */
+uint64_t ntske_bit_named(uint16_t kind);
 
 /* 1 where the bytes are UTF-8 (RFC 3629), and 0 where they are not. Refuses nothing. */
 uint64_t ntske_is_utf8(const uint8_t *bytes, size_t bytes_len);
@@ -863,10 +895,13 @@ uint64_t ntske_request_length(const uint16_t *protocols, size_t protocols_len,
 
 /*
  * One record, and its exact length; its parts lie in `source`. The critical bit of a known kind is
- * the one that belongs to it. Refusals: 9 for a kind above 32,767 and, whatever the kind is, a
- * `critical` that is neither 0 nor 1 or a `number` above 65,535; for a part that is not inside the
- * source, a list of an odd length, pairs whose length is no multiple of 4, a name that is not
- * UTF-8, keys of unequal length; then 8; then, of the writer, 10.
+ * the one that ntske_bit_named tells, `critical` being 0 or 1; of an unknown kind it is `critical`.
+ * So writing what was read gives the same bytes exactly if the bit received is the one named, or
+ * the kind is unknown, and the body of an end or a keep-alive record was empty. Refusals: 9 for a
+ * kind above 32,767 and, whatever the kind is, a `critical` that is neither 0 nor 1 or a `number`
+ * above 65,535; for a part that is not inside the source, a list of an odd length, pairs whose
+ * length is no multiple of 4, a name that is not UTF-8, keys of unequal length; then 8; then, of
+ * the writer, 10.
  */
 uint64_t ntske_write_record(const struct ntske_record *item, const uint8_t *source,
                             size_t source_len, uint8_t *out, size_t out_len, size_t *written);

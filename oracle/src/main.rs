@@ -27,7 +27,7 @@ mod nts {
     pub mod pieces;
     pub mod plans;
     mod poll;
-    mod reading;
+    pub mod reading;
     pub mod replies;
     mod requests;
     pub mod sending;

@@ -10,13 +10,16 @@ use crate::nts::lines::DISAGREES;
 use crate::nts::offered::{ALONE, BETWEEN, FIRST, LAST, NOT, NOT_HERE, NOTHING as NOTHING_OFFERED, TWICE};
 use crate::nts::pieces::{self, A_FULL_BUFFER, A_RECORD, NOTHING, THE_CLOSE, THE_LIMIT};
 use crate::nts::plans::{self, NOT_PLANNED, NOT_UTF8, OTHER_LENGTH};
+use crate::nts::reading;
 use crate::nts::replies::{self, AUTHENTICATION, Compared, EMPTY_LIST, MANY_COOKIES, NO_COOKIE, NOT_OFFERED};
 use crate::nts::sending;
 use crate::nts::trays::{self, BEYOND, CUT, MANY_FIELDS, OTHER_TAG};
 
 /// The outcomes that can occur, by what the ops do.
-pub const FAMILIES: [(&str, &[&[&str]]); 36] = [
-    ("read", &[&KINDS, &["refused 1", "refused 2"]]),
+pub const FAMILIES: [(&str, &[&[&str]]); 38] = [
+    ("read", &[&READ, &["refused 1", "refused 2"]]),
+    ("read c where the top bit is", &[&OTHER_BITS]),
+    ("read - where the top bit is", &[&OTHER_BITS]),
     ("write", &[&KINDS, &["a part", "refused 8", "refused 10"], &NO_RECORD]),
     ("measure", &[&KINDS, &["refused 8", "refused 9"]]),
     ("request", &[&REQUESTS]),
@@ -53,6 +56,42 @@ pub const FAMILIES: [(&str, &[&[&str]]); 36] = [
     ("written request", &[&WRITTEN, &["wrote with names", "wrote with more than eight names", "refused 8"]]),
     ("written request refused 9 for", &[&BROKEN, &[NOT_UTF8]]),
 ];
+/// Each kind with the bit set and with it clear.
+const READ: [&str; 30] = [
+    "0 c",
+    "0 -",
+    "1 c",
+    "1 -",
+    "2 c",
+    "2 -",
+    "3 c",
+    "3 -",
+    "4 c",
+    "4 -",
+    "5 c",
+    "5 -",
+    "6 c",
+    "6 -",
+    "7 c",
+    "7 -",
+    "8 c",
+    "8 -",
+    "9 c",
+    "9 -",
+    "10 c",
+    "10 -",
+    "12 c",
+    "12 -",
+    "13 c",
+    "13 -",
+    "14 c",
+    "14 -",
+    "unknown c",
+    "unknown -",
+];
+/// Other top bits, set and clear beside a record's own.
+const OTHER_BITS: [&str; 4] =
+    ["set in the size", "clear in the size", "set at the front of the message", "clear at the front of the message"];
 const KINDS: [&str; 16] =
     ["0", "1", "2", "3", "4", "5", "6", "7", "8", "9", "10", "12", "13", "14", "unknown c", "unknown -"];
 const REQUESTS: [&str; 11] = [
@@ -159,7 +198,8 @@ const NO_RECORD: [&str; 11] = [
     "refused 9 for a part",
 ];
 
-/// Adds a case to its outcome's count and, if it is a reply's or a choice, to those of what it was compared with.
+/// Adds a case to its outcome's count; if it is a reply's or a choice, to those of what it was compared with, and if a record
+/// was read, to those of other top bits.
 pub fn count(counts: &mut BTreeMap<String, u64>, op: u8, payload: &[u8], line: &[u8]) {
     match op {
         b'f' | b'F' => return count_fed(counts, op, payload, line),
@@ -177,7 +217,18 @@ pub fn count(counts: &mut BTreeMap<String, u64>, op: u8, payload: &[u8], line: &
             }
         }
         (_, "reply") => count_reply(counts, &family, op, payload),
+        (_, "read") => count_other_bits(counts, op, payload, line),
         _ => {}
+    }
+}
+
+/// Adds a record that was read to the counts of its bit beside other top bits.
+fn count_other_bits(counts: &mut BTreeMap<String, u64>, op: u8, payload: &[u8], line: &[u8]) {
+    let [b"ok", b"next", _, bit, ..] = line.splitn(5, |&byte| byte == b' ').collect::<Vec<_>>()[..] else { return };
+    let bit = String::from_utf8_lossy(bit);
+    for (place, is_set) in reading::other_bits(op, payload) {
+        let other = if is_set { "set" } else { "clear" };
+        *counts.entry(format!("read {bit} where the top bit is {other} {place}")).or_default() += 1;
     }
 }
 
@@ -287,8 +338,7 @@ fn outcome(op: u8, payload: &[u8], line: &[u8]) -> String {
     }
     let words: Vec<&str> = line.splitn(7, ' ').collect();
     match (op, &words[..]) {
-        (b'r' | b'R', ["ok", "next", _, "unknown", _, bit, ..]) => format!("read unknown {bit}"),
-        (b'r' | b'R', ["ok", "next", _, kind, ..]) => format!("read {kind}"),
+        (b'r' | b'R', ["ok", "next", _, bit, kind, ..]) => format!("read {kind} {bit}"),
         (b'r' | b'R', ["refused", number, ..]) => format!("read refused {number}"),
         (b'w' | b'W' | b'X', ["wrote", ..]) => format!("write {}", to_write(op, payload)),
         (b'w' | b'W' | b'X', ["refused", "9"]) => format!("write refused 9 for {}", to_write(op, payload)),

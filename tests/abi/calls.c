@@ -352,6 +352,13 @@ static void record_refused(const char *what, struct bytes m, size_t place, uint6
     record(what, m, place, want, ITEM(.kind = 0), 0);
 }
 
+/* The bit that document 01 names for a kind. */
+static uint64_t bit_of(size_t kind)
+{
+    static const uint8_t bits[] = {1, 1, 1, 1, 1, 0, 1, 1, 0, 1, 1, 2, 1, 0, 0};
+    return kind < sizeof bits ? bits[kind] : 2;
+}
+
 static void part(struct bytes m, size_t start, size_t len, struct ntske_range answer)
 {
     uint8_t *lent_m = lend(m.p, m.n);
@@ -820,24 +827,24 @@ static void reading(void)
     reply_refused("no algorithm", H("8001 0002 0000 8004 0000 8000 0000"), NTSKE_LIMIT, 2, at(14, 10));
     reply_refused("no cookie", m, NTSKE_LIMIT, 2, at(15, 12));
 
-    record("protocols", m, 0, 0, ITEM(.kind = NTSKE_KIND_NEXT_PROTOCOL, .body = {4, 2}), 6);
-    record("algorithms", m, 6, 0, ITEM(.kind = NTSKE_KIND_AEAD_ALGORITHM, .body = {10, 2}), 12);
-    record("the end", m, 12, 0, ITEM(.kind = NTSKE_KIND_END_OF_MESSAGE), 16);
+    record("protocols", m, 0, 0, ITEM(.kind = NTSKE_KIND_NEXT_PROTOCOL, .critical = 1, .body = {4, 2}), 6);
+    record("algorithms", m, 6, 0, ITEM(.kind = NTSKE_KIND_AEAD_ALGORITHM, .critical = 1, .body = {10, 2}), 12);
+    record("the end", m, 12, 0, ITEM(.kind = NTSKE_KIND_END_OF_MESSAGE, .critical = 1), 16);
     record_refused("behind the end", m, 16, at(1, 0));
     record_refused("past the message", m, 17, at(1, 0));
     record_refused("the last place", m, SIZE_MAX, at(1, 0));
     record_refused("no byte", NO_BYTES, 0, at(1, 0));
     record_refused("no byte, the last place", NO_BYTES, SIZE_MAX, at(1, 0));
-    record("an error", H("8002 0002 0102"), 0, 0, ITEM(.kind = NTSKE_KIND_ERROR, .number = 258), 6);
+    record("an error", H("8002 0002 0102"), 0, 0, ITEM(.kind = NTSKE_KIND_ERROR, .critical = 1, .number = 258), 6);
     record("a warning", H("0003 0002 FFFF"), 0, 0, ITEM(.kind = NTSKE_KIND_WARNING, .number = 65535), 6);
     record("a cookie", H("FF 0005 0002 AABB"), 1, 0, ITEM(.kind = NTSKE_KIND_NEW_COOKIE, .body = {5, 2}), 7);
-    record("a server", H("8006 0001 41"), 0, 0, ITEM(.kind = NTSKE_KIND_SERVER, .body = {4, 1}), 5);
-    record("a port", H("8007 0002 007B"), 0, 0, ITEM(.kind = NTSKE_KIND_PORT, .number = 123), 6);
+    record("a server", H("8006 0001 41"), 0, 0, ITEM(.kind = NTSKE_KIND_SERVER, .critical = 1, .body = {4, 1}), 5);
+    record("a port", H("8007 0002 007B"), 0, 0, ITEM(.kind = NTSKE_KIND_PORT, .critical = 1, .number = 123), 6);
     record("keep-alive with a body", H("0008 0002 FFFF"), 0, 0, ITEM(.kind = NTSKE_KIND_KEEP_ALIVE), 6);
-    record("supported protocols", H("8009 0000"), 0, 0, ITEM(.kind = NTSKE_KIND_SUPPORTED_NEXT_PROTOCOL_LIST, .body = {4, 0}), 4);
-    record("supported algorithms", H("800A 0004 000F 0020"), 0, 0, ITEM(.kind = NTSKE_KIND_SUPPORTED_ALGORITHM_LIST, .body = {4, 4}), 8);
+    record("supported protocols", H("8009 0000"), 0, 0, ITEM(.kind = NTSKE_KIND_SUPPORTED_NEXT_PROTOCOL_LIST, .critical = 1, .body = {4, 0}), 4);
+    record("supported algorithms", H("800A 0004 000F 0020"), 0, 0, ITEM(.kind = NTSKE_KIND_SUPPORTED_ALGORITHM_LIST, .critical = 1, .body = {4, 4}), 8);
     record("kind 11, bit set", H("800B 0000"), 0, 0, ITEM(.kind = 11, .critical = 1, .body = {4, 0}), 4);
-    record("keys", H("800C 0004 01020304"), 0, 0, ITEM(.kind = NTSKE_KIND_FIXED_KEY_REQUEST, .body = {4, 2}, .second = {6, 2}), 8);
+    record("keys", H("800C 0004 01020304"), 0, 0, ITEM(.kind = NTSKE_KIND_FIXED_KEY_REQUEST, .critical = 1, .body = {4, 2}, .second = {6, 2}), 8);
     record("a denied name", H("000D 0002 C280"), 0, 0, ITEM(.kind = NTSKE_KIND_NTP_SERVER_DENY, .body = {4, 2}), 6);
     record("authentication", H("000E 0000"), 0, 0, ITEM(.kind = NTSKE_KIND_AUTHENTICATION, .body = {4, 0}), 4);
     record("the last kind, bit set", H("FFFF 0001 AA"), 0, 0, ITEM(.kind = 32767, .critical = 1, .body = {4, 1}), 5);
@@ -1486,6 +1493,89 @@ static void records(void)
     item("a cookie of 65,535 bytes", ITEM(.kind = 5, .body = {1, 65535}), longest, 0, join(H("0005 FFFF"), (struct bytes){65535, longest.p}));
 }
 
+/* A record as it stands in a message. */
+static struct bytes sent(size_t kind, size_t bit, struct bytes body)
+{
+    const uint8_t header[] = {(uint8_t)(bit << 7 | kind >> 8), (uint8_t)kind, (uint8_t)(body.n >> 8), (uint8_t)body.n};
+    return join((struct bytes){sizeof header, header}, body);
+}
+
+/* Appends a line for each known record of a message whose sender forgot or added the bit, by the loop that the header shows; and what ended it. */
+static uint64_t slips(struct bytes m, char *text)
+{
+    struct ntske_record_read read;
+    size_t place = 0;
+    do {
+        uint64_t answer = ntske_read_record(m.p, m.n, place, &read);
+        if (answer != NTSKE_OK)
+            return answer;
+        uint64_t named = ntske_bit_named((uint16_t)read.record.kind);
+        if (named != NTSKE_BIT_GIVEN && named != read.record.critical)
+            text += sprintf(text, "%zu: kind %zu %s\n", place, read.record.kind, named == NTSKE_BIT_SET ? "without its critical bit" : "with a critical bit");
+        place = read.next;
+    } while (read.record.kind != NTSKE_KIND_END_OF_MESSAGE);
+    return NTSKE_OK;
+}
+
+/* The bit of every kind as it was received, the one that document 01 names, and when writing what was read gives the same bytes. */
+static void bits(void)
+{
+    for (size_t kind = 0; kind < 65536; kind++)
+        check(ntske_bit_named((uint16_t)kind) == bit_of(kind), "the bit that is named", "of the kind", kind);
+    check(NTSKE_BIT_CLEAR == 0 && NTSKE_BIT_SET == 1 && NTSKE_BIT_GIVEN == 2, "the bit that is named", "by its name", 0);
+
+    /* each known kind, those whose body is skipped with one and without; and unknown ones; with what is read behind FF */
+    const struct { struct bytes body; struct ntske_record item; } cases[] = {
+        {NO_BYTES, ITEM(.kind = 0)},
+        {H("AA"), ITEM(.kind = 0)},
+        {H("0000"), ITEM(.kind = 1, .body = {5, 2})},
+        {H("0102"), ITEM(.kind = 2, .number = 258)},
+        {H("FFFF"), ITEM(.kind = 3, .number = 65535)},
+        {H("000F0011"), ITEM(.kind = 4, .body = {5, 4})},
+        {H("AABB"), ITEM(.kind = 5, .body = {5, 2})},
+        {H("41C280"), ITEM(.kind = 6, .body = {5, 3})},
+        {H("007B"), ITEM(.kind = 7, .number = 123)},
+        {NO_BYTES, ITEM(.kind = 8)},
+        {H("80000000"), ITEM(.kind = 8)},
+        {NO_BYTES, ITEM(.kind = 9, .body = {5, 0})},
+        {H("000F0020"), ITEM(.kind = 10, .body = {5, 4})},
+        {H("01"), ITEM(.kind = 11, .body = {5, 1})},
+        {H("01020304"), ITEM(.kind = 12, .body = {5, 2}, .second = {7, 2})},
+        {H("41"), ITEM(.kind = 13, .body = {5, 1})},
+        {NO_BYTES, ITEM(.kind = 14, .body = {5, 0})},
+        {NO_BYTES, ITEM(.kind = 15, .body = {5, 0})},
+        {H("FF"), ITEM(.kind = 16384, .body = {5, 1})},
+        {H("8000"), ITEM(.kind = 32767, .body = {5, 2})},
+    };
+    for (size_t i = 0; i < sizeof cases / sizeof *cases; i++)
+        for (size_t bit = 0; bit < 2; bit++) {
+            struct ntske_record x = cases[i].item;
+            struct bytes body = cases[i].body, one = sent(x.kind, bit, body), m = join(H("FF"), join(one, H("FF")));
+            x.critical = bit;
+            record("the bit as received", m, 1, NTSKE_OK, x, 1 + one.n);
+
+            uint64_t named = bit_of(x.kind);
+            int skipped = x.kind == 0 || x.kind == 8;
+            struct bytes written = sent(x.kind, named == NTSKE_BIT_GIVEN ? bit : named, skipped ? NO_BYTES : body);
+            item("what was read is written", x, m, NTSKE_OK, written);
+            int same = written.n == one.n && memcmp(written.p, one.p, one.n) == 0;
+            check(same == ((named == NTSKE_BIT_GIVEN || named == bit) && (!skipped || !body.n)), "what was read is written", "as it was", x.kind);
+        }
+
+    static const struct { const char *message, *lines; uint64_t answer; } messages[] = {
+        {"8001 0002 0000 8004 0002 000F 8000 0000", "", NTSKE_OK},
+        {"0001 0000 8005 0000 000B 0000 800B 0000 FFFF 0000 8004 0000 800D 0000 0000 0000 0001 0000",
+         "0: kind 1 without its critical bit\n4: kind 5 with a critical bit\n24: kind 13 with a critical bit\n28: kind 0 without its critical bit\n", NTSKE_OK},
+        {"8008 0000 8007 0003 007B00", "0: kind 8 with a critical bit\n", NTSKE_INVALID_DATA},
+        {"", "", NTSKE_UNEXPECTED_EOF},
+    };
+    for (size_t i = 0; i < sizeof messages / sizeof *messages; i++) {
+        char text[256] = "";
+        check(slips(H(messages[i].message), text) == messages[i].answer, "who forgot or added the bit", "the end", i);
+        check(strcmp(text, messages[i].lines) == 0, "who forgot or added the bit", text, i);
+    }
+}
+
 /* The header's own functions: a word taken apart and told, the code of an error, and the exporter's context. */
 static void header(void)
 {
@@ -1591,6 +1681,7 @@ int main(void)
         denying();
         writing();
         records();
+        bits();
         header();
     }
     for (size_t i = 1; i <= REFUSALS; i++)

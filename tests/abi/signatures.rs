@@ -406,6 +406,8 @@ fn numbers(header: &str, read: &impl Fn(&str) -> String) -> Vec<String> {
         .into_iter()
         .map(|(name, arm)| (in_capitals(&name), number(first_of(arm.split_once('[').expect("an array of cells").1))))
         .collect();
+    let bits = arms(between(&reading, "fn ntske_bit_named(", "\n}\n"), "Bit::");
+    let bits = bits.into_iter().map(|(name, told)| (in_capitals(&name), number(first_of(&told)))).collect();
     let asked = between(&writing, "    Asked {\n", "    }\n").lines().map(|line| {
         let (name, bit) = line.trim().split_once(": n").expect("a flag of what is asked");
         let value = bit.trim().strip_prefix("/ ").map_or(1, |bit| number(first_of(bit)));
@@ -424,6 +426,7 @@ fn numbers(header: &str, read: &impl Fn(&str) -> String) -> Vec<String> {
     for (name, prefix, ours, least) in [
         ("ntske_refusals", "NTSKE_", refusals.clone(), 17),
         ("ntske_kinds", "NTSKE_KIND_", kinds, 14),
+        ("ntske_bits", "NTSKE_BIT_", bits, 3),
         ("ntske_found_indices", "NTSKE_FOUND_", indices, 15),
         ("ntske_sorts", "NTSKE_", sorts, 3),
         ("ntske_protocols", "NTSKE_", constants(&nts, "NextProtocol"), 2),

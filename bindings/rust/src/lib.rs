@@ -8,7 +8,9 @@
 //! place besides. `{:?}` shows no key, no cookie and no authentication.
 //!
 //! A host that takes a message off a line feeds a [`Connection`] with what comes, as it comes. One that logs which
-//! records a request held, also where it is refused, looks at a [`Finding`]. A server, once a whole request is there:
+//! records a request held, also where it is refused, looks at a [`Finding`]. One that shows a message record by record,
+//! and where its sender forgot or added a critical bit, walks over [`Message::records`]. A server, once a whole request
+//! is there:
 //!
 //! ```
 //! use ntske::*;
@@ -74,7 +76,7 @@ pub use numbers::{
 };
 pub use planning::{Plan, Tray};
 pub use reading::{choose, choose_protocol, is_utf8, Chosen, Message, Offered, Reply, Request};
-pub use record::{Placed, Record, Records};
+pub use record::{bit_named, Placed, Record, Records, Slip};
 pub use refusal::{Refusal, Refused};
 pub use views::{
     Authentication, Cookie, Cookies, Denied, EachCookie, EachName, Key, Keys, List, Listed, Name, Numbers,

@@ -85,6 +85,7 @@ extern "C" {
         answer: *mut [usize; 9],
     ) -> u64;
     fn ntske_read_record(message: *const u8, message_len: usize, place: usize, answer: *mut [usize; 8]) -> u64;
+    fn ntske_bit_named(kind: u16) -> u64;
     fn ntske_is_utf8(bytes: *const u8, bytes_len: usize) -> u64;
     fn ntske_part(message: *const u8, message_len: usize, start: usize, len: usize, answer: *mut [usize; 2]) -> u64;
     fn ntske_entry(
@@ -418,6 +419,12 @@ pub fn close_reply(
 pub fn read_record(message: &[u8], place: usize, answer: &mut ReadCells) -> u64 {
     // Safety: message is a slice, and answer an array that is borrowed alone.
     unsafe { ntske_read_record(message.as_ptr(), message.len(), place, answer) }
+}
+
+#[inline]
+pub fn bit_named(kind: u16) -> u64 {
+    // Safety: nothing is lent.
+    unsafe { ntske_bit_named(kind) }
 }
 
 #[inline]

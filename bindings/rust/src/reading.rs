@@ -4,7 +4,7 @@ use crate::refusal::{accepted, read};
 use crate::views::{hides, part, text};
 use crate::writing::{count, front};
 use crate::{
-    raw, AeadAlgorithm, Asked, Authentication, Cookies, Denied, Key, List, Name, NextProtocol, Record, Records,
+    raw, AeadAlgorithm, Asked, Authentication, Cookies, Denied, Key, List, Name, NextProtocol, Placed, Records,
     Refusal, Refused,
 };
 
@@ -198,12 +198,12 @@ impl<'m> Message<'m> {
         Ok(Reply::told(self, &answer, table))
     }
 
-    /// Reads the record at a place, and gives the place after it beside. Refusals: 1 and 2, at the place that was asked
-    /// for.
-    pub fn record(self, place: usize) -> Result<(Record<'m>, usize), Refusal> {
+    /// Reads the record at a place, with its critical bit as it was received and the place after it. Refusals: 1 and 2,
+    /// at the place that was asked for.
+    pub fn record(self, place: usize) -> Result<Placed<'m>, Refusal> {
         let mut answer = [0; 8];
         accepted(raw::read_record(self.0, place, &mut answer)).map_err(|why| Refusal { why, place })?;
-        Ok((Record::told(self, &answer), answer[7]))
+        Ok(Placed::told(self, place, &answer))
     }
 
     /// The records of the message, one after the other, through the first end record or up to the first that does not
@@ -217,6 +217,22 @@ impl<'m> Message<'m> {
     /// assert_eq!((first.place, first.kind, first.critical, first.size, first.body), (0, 1, true, 2, &[0, 0][..]));
     /// assert_eq!(records.next().unwrap().unwrap_err(), Refusal { why: Refused::UnexpectedEof, place: 6 });
     /// assert!(records.next().is_none());
+    /// # Ok::<(), Refusal>(())
+    /// ```
+    ///
+    /// Each tells its critical bit as it was received and the one that document 01 names for its kind, and so where the
+    /// sender forgot or added it:
+    ///
+    /// ```
+    /// # use ntske::{Message, Refusal};
+    /// // protocols without the bit, a cookie with one, and an unknown record, which has none of its own
+    /// let message = [0, 1, 0, 0, 0x80, 5, 0, 0, 0x80, 11, 0, 0, 0x80, 0, 0, 0];
+    /// let mut slips = vec![];
+    /// for placed in Message::new(&message).records() {
+    ///     let placed = placed?;
+    ///     slips.extend(placed.slip().map(|slip| format!("{}: kind {} {slip}", placed.place, placed.kind)));
+    /// }
+    /// assert_eq!(slips, ["0: kind 1 without its critical bit", "4: kind 5 with a critical bit"]);
     /// # Ok::<(), Refusal>(())
     /// ```
     pub const fn records(self) -> Records<'m> {

@@ -112,8 +112,9 @@ impl<'m> Record<'m> {
         }
     }
 
-    /// Writes the record to the front of `out` and gives that part of it. Refusals: 9 for a list whose length is wrong,
-    /// keys of unequal length and an unknown record numbered like a known one or above 32,767; then 8; then 10.
+    /// Writes the record to the front of `out` and gives that part of it. The critical bit of a known kind is the one
+    /// that [`bit_named`] tells, that of an unknown kind its own. Refusals: 9 for a list whose length is wrong, keys of
+    /// unequal length and an unknown record numbered like a known one or above 32,767; then 8; then 10.
     pub fn write<'o>(&self, out: &'o mut [u8]) -> Result<&'o mut [u8], Refused> {
         let (cells, source) = self.cells()?;
         let mut written = [0];
@@ -156,6 +157,47 @@ impl fmt::Debug for Record<'_> {
     }
 }
 
+/// The critical bit that document 01 names for a kind, which is the one that [`Record::write`] writes; none for an
+/// unknown kind, which is written as given.
+///
+/// ```
+/// # use ntske::bit_named;
+/// assert_eq!((bit_named(4), bit_named(5), bit_named(11)), (Some(true), Some(false), None));
+/// ```
+pub fn bit_named(kind: u16) -> Option<bool> {
+    match raw::bit_named(kind) {
+        0 => Some(false),
+        1 => Some(true),
+        _ => None,
+    }
+}
+
+/// How the critical bit that a sender gave a known record differs from the one that document 01 names for its kind.
+/// Reading lets both pass. It is shown in words: `without its critical bit`, `with a critical bit`.
+#[derive(Clone, Copy, Debug, PartialEq, Eq, Hash)]
+pub enum Slip {
+    /// The bit is to be set, and is clear.
+    Forgotten,
+    /// The bit is to be clear, and is set.
+    Added,
+}
+
+impl Slip {
+    /// What is said of a record that has it.
+    pub const fn words(self) -> &'static str {
+        match self {
+            Slip::Forgotten => "without its critical bit",
+            Slip::Added => "with a critical bit",
+        }
+    }
+}
+
+impl fmt::Display for Slip {
+    fn fmt(&self, f: &mut fmt::Formatter<'_>) -> fmt::Result {
+        f.write_str(self.words())
+    }
+}
+
 /// A record of a message with its place and its header.
 #[derive(Clone, Copy)]
 #[non_exhaustive]
@@ -164,25 +206,39 @@ pub struct Placed<'m> {
     pub place: usize,
     /// Its kind.
     pub kind: u16,
-    /// Its critical bit, of every kind.
+    /// Its critical bit as it was received, of every kind.
     pub critical: bool,
+    /// The critical bit that document 01 names for its kind; none for an unknown kind. See [`bit_named`].
+    pub named: Option<bool>,
     /// The size of its body.
     pub size: u16,
     /// The bytes of its body.
     pub body: &'m [u8],
-    /// What it is.
+    /// What it is. To write it gives the same bytes exactly if there is no [slip](Placed::slip) and the body of an end
+    /// or a keep-alive record was empty.
     pub record: Record<'m>,
+    /// The place after it.
+    pub next: usize,
 }
 
 impl<'m> Placed<'m> {
-    /// The record at a place, and the place after it. A record that reads whole has a header of four bytes: bit and
-    /// kind, and the body's size.
-    fn at(message: Message<'m>, place: usize) -> Result<(Self, usize), Refusal> {
-        let (record, next) = message.record(place)?;
-        let (header, body) = message.bytes()[place..next].split_at(4);
-        let word = u16::from_be_bytes([header[0], header[1]]);
-        let (kind, critical, size) = (word & 0x7FFF, word > 0x7FFF, u16::from_be_bytes([header[2], header[3]]));
-        Ok((Placed { place, kind, critical, size, body, record }, next))
+    /// The record at a place that a reader's answer tells. It has a header of four bytes, and its body up to the next.
+    pub(crate) fn told(message: Message<'m>, place: usize, answer: &raw::ReadCells) -> Self {
+        let [kind, bit, .., next] = *answer;
+        let (kind, body) = (kind as u16, &message.bytes()[place + 4..next]);
+        let record = Record::told(message, answer);
+        let (critical, named) = (bit == 1, bit_named(kind));
+        Placed { place, kind, critical, named, size: body.len() as u16, body, record, next }
+    }
+
+    /// Whether the sender forgot the critical bit of a known kind, or added one. There is no slip where the bit is the one
+    /// that is named, nor of an unknown kind.
+    pub fn slip(&self) -> Option<Slip> {
+        match (self.named?, self.critical) {
+            (true, false) => Some(Slip::Forgotten),
+            (false, true) => Some(Slip::Added),
+            _ => None,
+        }
     }
 }
 
@@ -192,6 +248,7 @@ impl fmt::Debug for Placed<'_> {
             .field("place", &self.place)
             .field("kind", &self.kind)
             .field("critical", &self.critical)
+            .field("named", &self.named)
             .field("size", &self.size)
             .field("record", &self.record)
             .finish_non_exhaustive()
@@ -215,9 +272,9 @@ impl<'m> Iterator for Records<'m> {
     type Item = Result<Placed<'m>, Refusal>;
 
     fn next(&mut self) -> Option<Self::Item> {
-        let read = Placed::at(self.message, self.next.take()?);
-        self.next = read.as_ref().ok().filter(|(item, _)| item.kind != 0).map(|(_, next)| *next);
-        Some(read.map(|(item, _)| item))
+        let read = self.message.record(self.next.take()?);
+        self.next = read.as_ref().ok().filter(|placed| placed.kind != 0).map(|placed| placed.next);
+        Some(read)
     }
 }
 

@@ -747,9 +747,10 @@ fn records_are_read_and_written() {
         writes(Ok(written), |out| record.write(out));
         let message = hex(&format!("FF {written} FF"));
         assert_eq!(record.length(), Ok(message.len() - 2));
-        let (read, next) = Message::new(&message).record(1).unwrap();
-        assert_eq!((format!("{read:?}"), next), (format!("{record:?}"), message.len() - 1));
-        writes(Ok(written), |out| read.write(out));
+        let read = Message::new(&message).record(1).unwrap();
+        assert_eq!((format!("{:?}", read.record), read.next), (format!("{record:?}"), message.len() - 1));
+        assert_eq!((read.critical, read.slip()), (message[1] > 0x7F, None));
+        writes(Ok(written), |out| read.record.write(out));
     }
     let long = vec![0x61; 65536];
     let name = std::str::from_utf8(&long).unwrap();
@@ -788,10 +789,9 @@ fn the_records_of_a_message_come_one_after_the_other() {
         for placed in records.by_ref().flatten() {
             assert_eq!(placed.body.len(), usize::from(placed.size));
             assert_eq!(placed.body, &message[placed.place + 4..][..placed.body.len()]);
-            assert_eq!(
-                format!("{:?}", Message::new(&message).record(placed.place).unwrap().0),
-                format!("{:?}", placed.record)
-            );
+            assert_eq!((placed.next, placed.named), (placed.place + 4 + placed.body.len(), bit_named(placed.kind)));
+            let alone = Message::new(&message).record(placed.place).unwrap();
+            assert_eq!(format!("{alone:?}"), format!("{placed:?}"));
             seen.push((placed.place, placed.kind, placed.critical, placed.size));
         }
         assert!(records.next().is_none());
@@ -816,6 +816,106 @@ fn the_records_of_a_message_come_one_after_the_other() {
     let mut records = Message::new(&cut).records();
     assert!(records.next().unwrap().is_ok() && records.next().unwrap().is_err());
     assert!(records.next().is_none() && records.next().is_none());
+}
+
+/// The bit that document 01 names for the kinds 0 to 14. Every other one is unknown.
+const NAMED: [Option<bool>; 15] = {
+    const SET: Option<bool> = Some(true);
+    const CLEAR: Option<bool> = Some(false);
+    [SET, SET, SET, SET, SET, CLEAR, SET, SET, CLEAR, SET, SET, None, SET, CLEAR, CLEAR]
+};
+
+#[test]
+fn a_kind_has_its_bit() {
+    for kind in 0..=u16::MAX {
+        assert_eq!(bit_named(kind), NAMED.get(usize::from(kind)).copied().flatten(), "{kind}");
+    }
+}
+
+#[test]
+fn the_bit_is_kept_as_it_was_received() {
+    // each known kind, those whose body is skipped with one and without; and unknown ones
+    let bodies = [
+        (0, ""),
+        (0, "AA"),
+        (1, "0000"),
+        (2, "0102"),
+        (3, "FFFF"),
+        (4, "000F 0011"),
+        (5, "AABB"),
+        (6, "41C280"),
+        (7, "007B"),
+        (8, ""),
+        (8, "8000 0000"),
+        (9, ""),
+        (10, "000F 0020"),
+        (11, "01"),
+        (12, "01020304"),
+        (13, "41"),
+        (14, ""),
+        (15, ""),
+        (16384, "FF"),
+        (32767, "8000"),
+    ];
+    for (kind, body) in bodies {
+        let (named, body) = (NAMED.get(usize::from(kind)).copied().flatten(), hex(body));
+        for critical in [false, true] {
+            let received = |critical: bool, body: &[u8]| {
+                let word = u16::from(critical) << 15 | kind;
+                [&word.to_be_bytes()[..], &(body.len() as u16).to_be_bytes(), body].concat()
+            };
+            let alone = received(critical, &body);
+            let message = [&[0xFF], &alone[..], &[0xFF]].concat();
+            let placed = Message::new(&message).record(1).unwrap();
+            assert_eq!((placed.place, placed.kind, placed.critical, placed.named), (1, kind, critical, named));
+            assert_eq!((usize::from(placed.size), placed.body, placed.next), (body.len(), &body[..], 1 + alone.len()));
+            let slip = match (named, critical) {
+                (Some(true), false) => Some(Slip::Forgotten),
+                (Some(false), true) => Some(Slip::Added),
+                _ => None,
+            };
+            assert_eq!(placed.slip(), slip);
+            if let Record::Unknown { kind: number, critical: own, data } = placed.record {
+                assert_eq!((number, own, data, named), (kind, critical, &body[..], None));
+            }
+            assert_eq!(matches!(placed.record, Record::Unknown { .. }), named.is_none());
+
+            // what is written: the same bytes exactly if there is no slip and no body was skipped
+            let skipped = [0, 8].contains(&kind);
+            let canonical = received(named.unwrap_or(critical), if skipped { &[] } else { &body });
+            let mut out = bytes(alone.len());
+            let written = placed.record.write(out.memory()).unwrap().to_vec();
+            assert_eq!((&written, placed.record.length()), (&canonical, Ok(canonical.len())));
+            out.holds(0, &canonical);
+            assert_eq!(written == alone, slip.is_none() && (!skipped || body.is_empty()), "kind {kind}, {critical}");
+            let again = Message::new(&written).record(0).unwrap();
+            assert_eq!((again.critical, again.slip()), (named.unwrap_or(critical), None));
+        }
+    }
+}
+
+#[test]
+fn a_slip_is_told() {
+    let slips = |text: &str| -> Vec<String> {
+        let message = hex(text);
+        let told = |placed: Placed| placed.slip().map(|slip| format!("{} {} {slip}", placed.place, placed.kind));
+        Message::new(&message).records().flatten().filter_map(told).collect()
+    };
+    assert_eq!(slips(M), [""; 0]);
+    let some = "0001 0000 8005 0000 000B 0000 800B 0000 FFFF 0000 8004 0000 800D 0000 0000 0000";
+    assert_eq!(
+        slips(some),
+        [
+            "0 1 without its critical bit",
+            "4 5 with a critical bit",
+            "24 13 with a critical bit",
+            "28 0 without its critical bit",
+        ]
+    );
+    // the header's loop says the same
+    for slip in [Slip::Forgotten, Slip::Added] {
+        assert!(HEADER.contains(&format!("{:?}", slip.words())) && slip.to_string() == slip.words());
+    }
 }
 
 #[test]

@@ -9,12 +9,14 @@ use native.Mathlib.Omega.{arith}
 use borrow.Author.Tests.{leb-true, leb-false, eqb-true, ne-eqb}
 use lib.Dec.{leb, eqb}
 use Rattle.utf8.proofs.Tests.{never, on}
-use Rattle.utf8.proofs.Below.{below}
-use Rattle.layout.specs.Table.{Row, given, row, rowOf, shapeOf, bitBy, bitOf, isUnknownShape, isUnknown, isSkippedShape, isSkipped}
+use Rattle.utf8.proofs.Below.{below, beq→eq}
+use Rattle.layout.specs.Table.{row, rowOf, shapeOf, bitNamed, bitBy, bitOf, isUnknownShape, isUnknown, isSkippedShape, isSkipped}
 use Rattle.layout.specs.declared.Shape.the-variants.{Unknown}
+use Rattle.layout.specs.declared.Bit.the-variants.{Given}
+use Rattle.layout.specs.declared.Row.{Row}
 
 -- from 15 on the row is the last one
-far-row : (k : ℕ) → 15 ≤ k → rowOf k ≡ row Unknown given
+far-row : (k : ℕ) → 15 ≤ k → rowOf k ≡ row Unknown Given
 unfolding rowOf
 far-row k h =
     let no : (c : ℕ) → c < 15 → eqb k c ≡ false = λ c i. ne-eqb k c (λ z. omega arith) in
@@ -26,18 +28,12 @@ far k h = ap (λ (r : Row). isUnknownShape (r .body)) (far-row k h)
 
 -- ---- which kinds are unknown: 11, and 15 to 32,767. Below 15 by one test that is computed at each kind
 
-same : (a b : Bool) → Bool·beq a b ≡ true → a ≡ b
-same true true e = refl
-same true false e = sym e
-same false true e = e
-same false false e = refl
-
 pub unknown-numbers : (k : ℕ) → isUnknown k ≡ (eqb k 11 || leb 15 k)
 unfolding isUnknown shapeOf rowOf
 unknown-numbers k =
     on (leb 15 k)
     (λ t. far k (leb-true 15 k t) ∙ on (eqb k 11) (λ i. rw i) (λ i. rw (i, t)))
-    (λ t. same (isUnknown k) (eqb k 11 || leb 15 k) (below 15 (λ i. Bool·beq (isUnknown i) (eqb i 11 || leb 15 i)) refl k (leb-false 15 k t)))
+    (λ t. beq→eq (isUnknown k) (eqb k 11 || leb 15 k) (below 15 (λ i. Bool·beq (isUnknown i) (eqb i 11 || leb 15 i)) refl k (leb-false 15 k t)))
 
 -- .. and which have a body that is skipped: end and keep-alive
 pub skipped-numbers : (k : ℕ) → isSkipped k ≡ (eqb k 0 || eqb k 8)
@@ -47,7 +43,7 @@ skipped-numbers k =
     (λ t.
     let h : 15 ≤ k = leb-true 15 k t in
     ap (λ (r : Row). isSkippedShape (r .body)) (far-row k h) ∙ rw (ne-eqb k 0 (λ z. omega arith), ne-eqb k 8 (λ z. omega arith)))
-    (λ t. same (isSkipped k) (eqb k 0 || eqb k 8) (below 15 (λ i. Bool·beq (isSkipped i) (eqb i 0 || eqb i 8)) refl k (leb-false 15 k t)))
+    (λ t. beq→eq (isSkipped k) (eqb k 0 || eqb k 8) (below 15 (λ i. Bool·beq (isSkipped i) (eqb i 0 || eqb i 8)) refl k (leb-false 15 k t)))
 
 -- as the last arm of a `match` by kind knows it: none of the numbers before, the last one first
 abbrev pub NoneOf : List ℕ → ℕ → Type 0
@@ -76,7 +72,7 @@ unnamed k n =
 
 -- ---- what the table says of them
 
-pub unknown-row : (k : ℕ) → isUnknown k ≡ true → rowOf k ≡ row Unknown given
+pub unknown-row : (k : ℕ) → isUnknown k ≡ true → rowOf k ≡ row Unknown Given
 unfolding rowOf
 unknown-row k e =
     on (eqb k 11)
@@ -91,10 +87,14 @@ pub shape-unknown : (k : ℕ) → shapeOf k ≡ Unknown → isUnknown k ≡ true
 unfolding isUnknown
 shape-unknown k e = ap isUnknownShape e
 
--- the bit that is written of them is the one given
+-- the table names no bit of theirs
+pub unknown-named : (k : ℕ) → isUnknown k ≡ true → bitNamed k ≡ Given
+unknown-named k e = ap (λ (r : Row). r .bit) (unknown-row k e)
+
+-- so the one that is written is the one given
 pub unknown-bit : (k : ℕ) (bit : Bool) → isUnknown k ≡ true → bitOf k bit ≡ bit
 unfolding bitOf
-unknown-bit k bit e = ap (λ (r : Row). bitBy (r .bit) bit) (unknown-row k e)
+unknown-bit k bit e = rw (unknown-named k e)
 
 -- and of any other kind it is the table's, whatever is given
 pub known-bit : (k : ℕ) (a b : Bool) → isUnknown k ≡ false → bitOf k a ≡ bitOf k b
@@ -108,7 +108,7 @@ known-bit k a b e = go a b
         (λ t. leb-false 15 k t)
 
     either : bitOf k true ≡ bitOf k false
-    either = same (bitOf k true) (bitOf k false) (rw e at (below 15 (λ i. isUnknown i || Bool·beq (bitOf i true) (bitOf i false)) refl k low))
+    either = beq→eq (bitOf k true) (bitOf k false) (rw e at (below 15 (λ i. isUnknown i || Bool·beq (bitOf i true) (bitOf i false)) refl k low))
 
     go : (a b : Bool) → bitOf k a ≡ bitOf k b
     go true true = refl

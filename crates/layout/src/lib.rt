@@ -15,7 +15,7 @@ pub struct Part {
     pub len: usize,
 }
 
-// What a body holds: 01's table, by kind.
+// What a body holds: 01's table by kind, its column "Body".
 pub enum Shape {
     Skipped,
     Numbers,
@@ -25,6 +25,19 @@ pub enum Shape {
     Pairs,
     Halves,
     Unknown,
+}
+
+// The bit that is written: its column "Bit written". Of an unknown kind it is the one given with the record.
+pub enum Bit {
+    Set,
+    Clear,
+    Given,
+}
+
+// A row of that table.
+pub struct Row {
+    pub body: Shape,
+    pub bit: Bit,
 }
 
 // A record laid out: its kind and the bit that is written, what its body holds, and that: a number, or two parts of the lent

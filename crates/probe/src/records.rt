@@ -165,9 +165,11 @@ fn put_short(out: &mut [u8], at: usize, kind: u16, item: NtsRecord) -> usize {
     }
 }
 
+// The place after a record, its bit as received, and the record.
 fn put_read(out: &mut [u8], at: usize, message: &[u8], x: Reading) -> usize {
     let place = text::put_number(out, at, b"ok next ", x.next.at as u64);
-    let to = text::put(out, place, b' ');
+    let bit = text::put(out, place, b' ');
+    let to = put_bit(out, bit, x.critical);
     let item = x.item;
     put_record(out, to, message, item)
 }

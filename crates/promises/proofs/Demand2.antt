@@ -6,31 +6,32 @@ use mathlib.Core.List.{List, [], _∷_, _++_}
 use mathlib.Core.Bool.{Bool, true, false}
 use Prim.Native.Nat.{ℕ, _+_, _-_, _<_, _≤_}
 use native.Mathlib.Omega.{arith}
-use borrow.Author.Tests.{ltb-false, le-leb, lt-leb, le-ltb, ne-eqb}
+use borrow.Author.Tests.{ltb-false, le-ltb}
 use lib.Dec.{ltb}
-use lib.ListN.{length, take, drop, getD}
-use lib.Seq.{take-at}
+use lib.ListN.{length, take, drop, getD, length-drop}
+use lib.Seq.{take-at, length-take-le}
 use denote.Ref.{now}
 use Rattle.utf8.proofs.Tests.{on}
 use Rattle.wire.specs.Over.{over, bytesOf}
-use Rattle.wire.proofs.Bytes.{number-back}
 use Rattle.nts.specs.Refusal.{nothing}
 use Rattle.layout.specs.Table.{bitOf, isUnknown}
-use Rattle.layout.specs.Write.{isRecord, bodySize, wordOf, header, recordBytes, Count, bytes, refused, toldCount, measured, fitted, written, leftBy, Wrote}
+use Rattle.layout.specs.Write.{isRecord, bodySize, header, recordBytes, Count, bytes, refused, toldCount, measured, fitted, written, leftBy, Wrote}
 use Rattle.layout.specs.declared.Layout.{Layout}
 use Rattle.layout.specs.declared.ByteCount.{ByteCount}
 use Rattle.layout.specs.declared.ByteCount.the-variants.{Bytes}
 use Rattle.layout.proofs.Apart.{count-apart}
-use Rattle.layout.proofs.Table.{skipped-numbers, known-bit}
+use Rattle.layout.proofs.Table.{known-bit}
 use Rattle.layout.proofs.Writing.{length-body, just-long, measured-long}
-use Rattle.record.specs.Record.{kindOf, criticalOf, kind, critical, Seen, read, readAt}
+use Rattle.record.specs.Record.{kind, critical, Seen, read, readAt}
 use Rattle.record.specs.Told.{kindOfRecord, toldRecord, toldParsed}
 use Rattle.record.specs.Laid.{layoutOf}
-use Rattle.record.specs.Shown.{shown, givenBit, canonical}
+use Rattle.record.specs.Shown.{shown, givenBit, canonical, IsCanonical}
 use Rattle.record.specs.declared.NtsRecord.{NtsRecord}
 use Rattle.record.specs.declared.Reading.{Reading}
 use Rattle.record.specs.declared.Parsed.{Parsed}
 use Rattle.record.specs.declared.Parsed.the-variants.{Read, Refused}
+use Rattle.record.proofs.Bits.{read-inside}
+use Rattle.record.proofs.Canonical as canon
 use Rattle.record.proofs.Trip as trip
 use Rattle.record.proofs.NtsRecord.serialize.Reads as serialize
 use Rattle.record.proofs.NtsRecord.length.Reads as measure
@@ -41,10 +42,11 @@ use Rattle.record.proofs.NtsRecord.parse.Reads as parse
 -- the record x, its parts in s, for which the writer's definition answers n bytes: they are `recordBytes (layoutOf x) s`
 module _ (x : NtsRecord) (s : List ℕ) (n : ℕ) (w : measured (layoutOf x) s ≡ bytes n) where
   -- "Writing a record and reading it gives that record.": in front of any other bytes t and at any place of a larger message, after the bytes p.
-  -- Exactly the bytes that were written are taken, and the kind, the numbers and the bodies are the same
+  -- Exactly the bytes that were written are taken, and the kind, the numbers and the bodies are the same. 02, order 4: "reading what was written gives the
+  -- table's bit", and of an unknown record the one given, its own
   pub written-read : (p t : List ℕ)
       → (y : Seen)
-      × (readAt (p ++ (recordBytes (layoutOf x) s ++ t)) (length p) ≡ read y (length p + n))
+      × (readAt (p ++ (recordBytes (layoutOf x) s ++ t)) (length p) ≡ read y (bitOf (kindOfRecord x) (givenBit x)) (length p + n))
       × (shown y (p ++ (recordBytes (layoutOf x) s ++ t)) ≡ shown (toldRecord x) s)
   written-read = trip.written-read x s n w
 
@@ -67,44 +69,43 @@ table-bit x bit e = known-bit (kindOfRecord x) (givenBit x) bit e
 
 -- what is read can be written again from the same message, if that is bytes: in k bytes, which are those that were read made `canonical`; as many
 -- as were read, but for kinds 0 and 8
-pub read-written : (x : NtsRecord) (m : List ℕ) (at next : ℕ) → ((i : ℕ) → getD m i 0 < 256) → readAt m at ≡ read (toldRecord x) next
+pub read-written : (x : NtsRecord) (m : List ℕ) (at : ℕ) (bit : Bool) (next : ℕ) → ((i : ℕ) → getD m i 0 < 256) → readAt m at ≡ read (toldRecord x) bit next
     → (k : ℕ)
     × (measured (layoutOf x) m ≡ bytes k)
     × (recordBytes (layoutOf x) m ≡ canonical (take (next - at) (drop at m)))
     × (k ≤ next - at)
     × ((layoutOf x .kind ≡ 0 → ⊥) → (layoutOf x .kind ≡ 8 → ⊥) → k ≡ next - at)
-read-written x m at next small e = let a = trip.read-written x m at next small e in (a .count, a .measures, a .same, a .within, a .whole)
+read-written x m at bit next small e = let a = trip.read-written x m at bit next small e in (a .count, a .measures, a .same, a .within, a .whole)
+
+-- they are the bytes that were read exactly if the bit received is the one that is written, and the body of an end record or a keep-alive record was
+-- empty: both ways
+module _ (x : NtsRecord) (m : List ℕ) (at : ℕ) (bit : Bool) (next : ℕ) (small : (i : ℕ) → getD m i 0 < 256) (e : readAt m at ≡ read (toldRecord x) bit next) where
+  pub read-written-same : IsCanonical (kindOfRecord x) bit (next - (at + 4)) → recordBytes (layoutOf x) m ≡ take (next - at) (drop at m)
+  read-written-same = trip.read-written x m at bit next small e .alike
+
+  pub read-written-only : recordBytes (layoutOf x) m ≡ take (next - at) (drop at m) → IsCanonical (kindOfRecord x) bit (next - (at + 4))
+  read-written-only = trip.read-written x m at bit next small e .only-alike
 
 -- the bytes are the same but for the bit of a known kind and, for kinds 0 and 8, the size and the body: what `canonical` leaves of bytes b
 module _ (b : List ℕ) where
-  word-first : (bit : Bool) → (kindOf (wordOf (kind b) bit) ≡ kind b) × (criticalOf (wordOf (kind b) bit) ≡ bit)
-  unfolding kind kindOf criticalOf wordOf
-  word-first true = (omega arith, le-leb 0x8000 (kind b + 0x8000) (omega arith))
-  word-first false = (omega arith, lt-leb 0x8000 (kind b) (omega arith))
-
   -- the kind is the same
   pub canonical-kind : kind (canonical b) ≡ kind b
-  unfolding kind canonical bytesOf
-  canonical-kind = ap kindOf (number-back _ _) ∙ word-first (bitOf (kind b) (critical b)) .0
+  canonical-kind = canon.canonical-kind b
 
   -- the bit is the one of the table, and of an unknown kind the same
   pub canonical-bit : critical (canonical b) ≡ bitOf (kind b) (critical b)
-  unfolding critical canonical bytesOf
-  canonical-bit = ap criticalOf (number-back _ _) ∙ word-first (bitOf (kind b) (critical b)) .1
+  canonical-bit = canon.canonical-bit b
 
   -- the size and the body of any kind but 0 and 8 are the same
   pub canonical-rest : (kind b ≡ 0 → ⊥) → (kind b ≡ 8 → ⊥) → drop 2 (canonical b) ≡ drop 2 b
-  unfolding canonical bytesOf
-  canonical-rest i j = rw (skipped-numbers (kind b), ne-eqb (kind b) 0 i, ne-eqb (kind b) 8 j)
+  canonical-rest = canon.canonical-rest b
 
   -- of those two the size is 0, and there is no body
   pub canonical-end : kind b ≡ 0 → drop 2 (canonical b) ≡ 0 ∷ 0 ∷ []
-  unfolding canonical bytesOf
-  canonical-end e = rw (skipped-numbers (kind b), e)
+  canonical-end = canon.canonical-end b
 
   pub canonical-keep-alive : kind b ≡ 8 → drop 2 (canonical b) ≡ 0 ∷ 0 ∷ []
-  unfolding canonical bytesOf
-  canonical-keep-alive e = rw (skipped-numbers (kind b), e)
+  canonical-keep-alive = canon.canonical-keep-alive b
 
 -- ---- calls, with their answers: what each function's own contract says of them
 
@@ -144,14 +145,14 @@ wrote x s o r o′ c = rw (← c .of-record, ← c .of-source, ← c .of-output,
 counted : (x : NtsRecord) (s : List ℕ) (r : ByteCount) → Measured x s r → toldCount r ≡ measured (layoutOf x) s
 counted x s r c = rw (← c .of-record, ← c .of-source) (c .met)
 
-parsed : (m : List ℕ) (at : ℕ) (r : Parsed) → ParsedAt m at r → toldParsed r ≡ readAt m at
+pub parsed : (m : List ℕ) (at : ℕ) (r : Parsed) → ParsedAt m at r → toldParsed r ≡ readAt m at
 parsed m at r c = rw (← c .of-message, ← c .of-place) (c .met)
 
 -- an answer that tells of a record is one
-read-answer : (r : Parsed) (y : Seen) (next : ℕ) → toldParsed r ≡ read y next
-    → (z : Reading) × (r ≡ Read z) × (toldRecord (z .item) ≡ y) × (z .next .at ≡ next)
-read-answer (Read z) y next e = (z, refl, cc, cc)
-read-answer (Refused q) y next e = let z : _≡_ {A = ℕ} 0 1 = cc in absurd (omega arith)
+pub read-answer : (r : Parsed) (y : Seen) (bit : Bool) (next : ℕ) → toldParsed r ≡ read y bit next
+    → (z : Reading) × (r ≡ Read z) × (toldRecord (z .item) ≡ y) × (z .critical ≡ bit) × (z .next .at ≡ next)
+read-answer (Read z) y bit next e = (z, refl, cc, cc, cc)
+read-answer (Refused q) y bit next e = let z : _≡_ {A = ℕ} 0 1 = cc in absurd (omega arith)
 
 module _ (l : Layout) (s o : List ℕ) where
   -- a writer that answered n bytes measured them, had room for them and put them over the output's front
@@ -210,32 +211,38 @@ module _ (x : NtsRecord) (s o : List ℕ) (n : ℕ) (o′ : List ℕ) (c : Seria
       let w = wrote-bytes (layoutOf x) s o o′ n (wrote x s o (Bytes n) o′ c) in
       (written-length x s n (w .0), w .1, w .2)
 
+  serialize-front : take n o′ ≡ recordBytes (layoutOf x) s
+  unfolding over
+  serialize-front =
+      let b = recordBytes (layoutOf x) s in
+      ap (take n) (serialize-leaves .2) ∙ take-at b (drop (length b) o) n (serialize-leaves .0)
+
   -- the bytes of the record at a place of any message m
   reads-back : (p t m : List ℕ) → m ≡ p ++ (recordBytes (layoutOf x) s ++ t) → (r : Parsed) → ParsedAt m (length p) r
       → (z : Reading) × (r ≡ Read z) × (z .next .at ≡ length p + n) × (shown (toldRecord (z .item)) m ≡ shown (toldRecord x) s)
+      × (z .critical ≡ bitOf (kindOfRecord x) (givenBit x))
   reads-back p t m e r k =
       let y = written-read x s n (wrote-bytes (layoutOf x) s o o′ n (wrote x s o (Bytes n) o′ c) .0) p t in
-      let z = read-answer r (y .0) (length p + n) (parsed m (length p) r k ∙ ap (λ (b : List ℕ). readAt b (length p)) e ∙ y .1) in
-      (z .0, z .1, z .3, ap (λ (q : Seen). shown q m) (z .2) ∙ ap (shown (y .0)) e ∙ y .2)
+      let z = read-answer r (y .0) (bitOf (kindOfRecord x) (givenBit x)) (length p + n) (parsed m (length p) r k ∙ ap (λ (b : List ℕ). readAt b (length p)) e ∙ y .1) in
+      (z .0, z .1, z .4, ap (λ (q : Seen). shown q m) (z .2) ∙ ap (shown (y .0)) e ∙ y .2, z .3)
 
-  -- "Writing a record and reading it gives that record.": every call of parse at the output's front answers it, and the place after its n bytes
+  -- "Writing a record and reading it gives that record.": every call of parse at the output's front answers it, and the place after its n bytes. The bit
+  -- is the table's, and of an unknown record the one given, its own
   pub serialize-parse : (r : Parsed) → ParsedAt o′ 0 r
       → (z : Reading) × (r ≡ Read z) × (z .next .at ≡ n) × (shown (toldRecord (z .item)) o′ ≡ shown (toldRecord x) s)
+      × (z .critical ≡ bitOf (kindOfRecord x) (givenBit x))
   unfolding over
   serialize-parse r k =
       let z = reads-back [] (drop (length (recordBytes (layoutOf x) s)) o) o′ (serialize-leaves .2) r k in
-      (z .0, z .1, omega (arith, z .2), z .3)
+      (z .0, z .1, omega (arith, z .2), z .3, z .4)
 
   -- and so wherever the n bytes stand in a message
   pub serialize-parse-in : (p t : List ℕ) (r : Parsed) → ParsedAt (p ++ (take n o′ ++ t)) (length p) r
       → (z : Reading) × (r ≡ Read z) × (z .next .at ≡ length p + n)
       × (shown (toldRecord (z .item)) (p ++ (take n o′ ++ t)) ≡ shown (toldRecord x) s)
-  unfolding over
+      × (z .critical ≡ bitOf (kindOfRecord x) (givenBit x))
   serialize-parse-in p t r k =
-      let w = serialize-leaves in
-      let b = recordBytes (layoutOf x) s in
-      let f : take n o′ ≡ b = ap (take n) (w .2) ∙ take-at b (drop (length b) o) n (w .0) in
-      reads-back p t (p ++ (take n o′ ++ t)) (ap (λ (a : List ℕ). p ++ (a ++ t)) f) r k
+      reads-back p t (p ++ (take n o′ ++ t)) (ap (λ (a : List ℕ). p ++ (a ++ t)) serialize-front) r k
 
   -- the bit in the output is the table's, and of an unknown record the one given
   pub serialize-bit : critical o′ ≡ bitOf (kindOfRecord x) (givenBit x)
@@ -268,7 +275,7 @@ length-same x s r r′ c c′ = count-apart r r′ (counted x s r c ∙ sym (cou
 pub parse-serialize : (m : List ℕ) (at : ℕ) (z : Reading) → ((i : ℕ) → getD m i 0 < 256) → ParsedAt m at (Read z) → Again m at z
 parse-serialize m at z small c =
     let x = z .item in
-    let k = read-written x m at (z .next .at) small (sym (parsed m at (Read z) c)) in
+    let k = read-written x m at (z .critical) (z .next .at) small (sym (parsed m at (Read z) c)) in
     record {
       count = k .0;
       within = k .3;
@@ -279,3 +286,38 @@ parse-serialize m at z small c =
           let w = wrote-room (layoutOf x) m o r o′ (k .0) (wrote x m o r o′ d) (k .1) h in
           (w .0, w .1 ∙ ap (λ (b : List ℕ). over b o) (k .2));
     }
+
+-- 02, order 4: writing what was read gives the same bytes exactly if the bit received is the table's (of an unknown record its own always is) and an end or
+-- keep-alive record's body was empty. z was read from m, which is bytes, at the place `at`
+module _ (m : List ℕ) (at : ℕ) (z : Reading) (small : (i : ℕ) → getD m i 0 < 256) (c : ParsedAt m at (Read z)) where
+  -- its bytes, and the size of its body
+  abbrev received : List ℕ
+  received = take (z .next .at - at) (drop at m)
+
+  abbrev sizeReceived : ℕ
+  sizeReceived = z .next .at - (at + 4)
+
+  -- if it is so, every call of serialize into an output with room for as many bytes answers that many and puts the very bytes over its front
+  pub parse-serialize-same : IsCanonical (kindOfRecord (z .item)) (z .critical) sizeReceived
+      → (o : List ℕ) (r : ByteCount) (o′ : List ℕ) → Serialized (z .item) m o r o′ → z .next .at - at ≤ length o
+      → (r ≡ Bytes (z .next .at - at)) × (o′ ≡ over received o)
+  parse-serialize-same i o r o′ d h =
+      let x = z .item in
+      let e = sym (parsed m at (Read z) c) in
+      let k = read-written x m at (z .critical) (z .next .at) small e in
+      let b = read-written-same x m at (z .critical) (z .next .at) small e i in
+      let n : k .0 ≡ z .next .at - at = sym (written-length x m (k .0) (k .1)) ∙ ap length b ∙ received-length in
+      let w = wrote-room (layoutOf x) m o r o′ (k .0) (wrote x m o r o′ d) (k .1) (omega arith) in
+      (w .0 ∙ ap Bytes n, w .1 ∙ ap (λ (l : List ℕ). over l o) b)
+    where
+      inside : (at ≤ z .next .at) × (z .next .at ≤ length m)
+      inside = read-inside m at (toldRecord (z .item)) (z .critical) (z .next .at) (parsed m at (Read z) c)
+
+      received-length : length received ≡ z .next .at - at
+      received-length = length-take-le (z .next .at - at) (drop at m) (omega (arith, length-drop at m, inside .0, inside .1))
+
+  -- and only then: where a call of serialize wrote the very bytes, it is so
+  pub parse-serialize-only : (o : List ℕ) (n : ℕ) (o′ : List ℕ) → Serialized (z .item) m o (Bytes n) o′ → take n o′ ≡ received
+      → IsCanonical (kindOfRecord (z .item)) (z .critical) sizeReceived
+  parse-serialize-only o n o′ d q =
+      read-written-only (z .item) m at (z .critical) (z .next .at) small (sym (parsed m at (Read z) c)) (sym (serialize-front (z .item) m o n o′ d) ∙ q)

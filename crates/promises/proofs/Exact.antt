@@ -94,29 +94,29 @@ asked m = record { message = m; limit = 64; room = 0 }
 
 -- ---- one record
 
-faulted : (f : ℕ) → f ≤ 2 → (x : Seen) (next at : ℕ)
-    → Within recordNumbers (ofRead (cond (eqb f 0) (rec.read x next) (rec.refused (record { number = f; beside = nothing; place = at }))))
-faulted zero l x next at = tt
-faulted (suc zero) l x next at = refl
-faulted (suc (suc zero)) l x next at = refl
-faulted (suc (suc (suc f))) l x next at = absurd (omega arith)
+faulted : (f : ℕ) → f ≤ 2 → (x : Seen) (bit : Bool) (next at : ℕ)
+    → Within recordNumbers (ofRead (cond (eqb f 0) (rec.read x bit next) (rec.refused (record { number = f; beside = nothing; place = at }))))
+faulted zero l x bit next at = tt
+faulted (suc zero) l x bit next at = refl
+faulted (suc (suc zero)) l x bit next at = refl
+faulted (suc (suc (suc f))) l x bit next at = absurd (omega arith)
 
 pub record-exactly : Exactly (λ (x : List ℕ × ℕ). ofRead (readAt (x .0) (x .1))) recordNumbers
 unfolding numberAt kindOf criticalOf kind critical size there shapeOf rowOf notNumber faultOf fault readFrom readAt
 record-exactly = record {
-  only = λ x. only-of recordNumbers (ofRead (readAt (x .0) (x .1))) (faulted (fault (drop (x .1) (x .0))) (record-few (drop (x .1) (x .0))) _ _ (x .1));
+  only = λ x. only-of recordNumbers (ofRead (readAt (x .0) (x .1))) (faulted (fault (drop (x .1) (x .0))) (record-few (drop (x .1) (x .0))) _ _ _ (x .1));
   each = ((([], 0), refl), (((odd-error, 0), refl), tt));
 }
 
 -- a look refuses as the reader does
 pub look-exactly : Exactly (λ (x : List ℕ × ℕ). ofSight (lookAt (x .0) (x .1))) recordNumbers
 unfolding readFrom readAt lookFrom lookAt
-look-exactly = alike recordNumbers (λ x. same (eqb (fault (drop (x .1) (x .0))) 0) _ _ _ _ _ _) record-exactly
+look-exactly = alike recordNumbers (λ x. same (eqb (fault (drop (x .1) (x .0))) 0) _ _ _ _ _ _ _) record-exactly
   where
-    same : (t : Bool) (k : ℕ) (bit : Bool) (n : ℕ) (x : Seen) (next : ℕ) (r : Refused)
-        → ofSight (cond t (rec.whole k bit n) (rec.broken r)) ≡ ofRead (cond t (rec.read x next) (rec.refused r))
-    same true k bit n x next r = refl
-    same false k bit n x next r = refl
+    same : (t : Bool) (k : ℕ) (bit : Bool) (n : ℕ) (x : Seen) (own : Bool) (next : ℕ) (r : Refused)
+        → ofSight (cond t (rec.whole k bit n) (rec.broken r)) ≡ ofRead (cond t (rec.read x own next) (rec.refused r))
+    same true k bit n x own next r = refl
+    same false k bit n x own next r = refl
 
 -- ---- whole messages
 

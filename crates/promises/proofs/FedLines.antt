@@ -11,6 +11,7 @@ use lib.Bits.{or-lt}
 use lib.Pow.{pow-lt}
 use lib.Dec.{ltb, leb, eqb}
 use borrow.Author.Tests.{le-leb, lt-leb, ne-eqb, eqb-true}
+use Rattle.wire.proofs.Bytes.{Small, small-part}
 use Rattle.utf8.proofs.Tests as test
 use Rattle.utf8.proofs.Tests.{never, upto}
 use Rattle.nts.specs.Refusal.{Beside, nothing, code, protocol, algorithm, besideNumber, Refused}
@@ -22,7 +23,7 @@ use Rattle.walk.specs.Shown.{slotOf}
 use Rattle.walk.specs.Table.{known}
 use Rattle.walk.specs.Met.{Passing, halts, on, metBelow, withMet, passing}
 use Rattle.walk.proofs.Known.{known-below}
-use Rattle.walk.proofs.Numbered.{Small, Sixteen, coded, bareNumber, bare-not, Fits, Numbered, small-part}
+use Rattle.walk.proofs.Numbered.{Sixteen, coded, bareNumber, bare-not, Fits, Numbered}
 use Rattle.walk.proofs.Within.{refused-within}
 use Rattle.cells.specs.Cells.{marked, word, cell}
 use Rattle.cells.proofs.Lent.{mark-in, apart}

@@ -5,10 +5,11 @@ use mathlib.Core.List.{List}
 use Prim.Native.Nat.{ℕ, _/_, _%_, _<_}
 use native.Mathlib.Omega.{arith}
 use lib.ListN.{length}
+use Rattle.wire.proofs.Bytes.{Small}
 use Rattle.nts.specs.Refusal.{Beside, nothing, code, protocol, algorithm, besideNumber, Refused}
 use Rattle.walk.specs.Walk.{Sighting}
 use Rattle.walk.specs.Judge.{Answer, refused, accepted}
-use Rattle.walk.proofs.Numbered.{Small, Sixteen, Numbered}
+use Rattle.walk.proofs.Numbered.{Sixteen, Numbered}
 use Rattle.places.specs.Places.{roomOf}
 use Rattle.cells.specs.Cells.{sortOf, word}
 use Rattle.cells.proofs.Lent.{word-some, apart}

@@ -8,6 +8,7 @@ pub mod RefusingFed
 pub mod Telling
 pub mod Demand1
 pub mod Demand2
+pub mod Bits
 pub mod Demand3
 pub mod Examples
 pub mod HandingReply

@@ -12,12 +12,12 @@ use lib.Dec.{eqb}
 use borrow.Author.Tests.{ne-eqb}
 use Rattle.utf8.proofs.Tests as test
 use Rattle.wire.specs.Bytes.{numberAt}
+use Rattle.wire.proofs.Bytes.{Small}
 use Rattle.nts.specs.Refusal.{nothing, Refused}
 use Rattle.walk.specs.Walk.{Sighting}
 use Rattle.walk.specs.Judge as judge
 use Rattle.walk.specs.Judge.{Terms, Under, bodyIn, partOf, readBy}
 use Rattle.walk.specs.Message.{contents}
-use Rattle.walk.proofs.Numbered.{Small}
 use Rattle.places.specs.Places.{roomOf}
 use Rattle.request.specs.Request as requests
 use Rattle.request.specs.declared.Request.the-variants.{KeyExchange, FixedKey, Support}

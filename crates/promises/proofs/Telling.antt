@@ -54,7 +54,7 @@ of-reply m (judge.refused r) = refl
 of-reply m (judge.accepted (replies.reply p a s t k c)) = refl
 
 of-record : (t : Told) → ofGiven (recordGiven t) ≡ ofRead t
-of-record (read x next) = refl
+of-record (read x bit next) = refl
 of-record (rec.refused r) = refl
 
 of-choice : (t : choice.Told) → ofGiven (choiceGiven t) ≡ ofChoice t

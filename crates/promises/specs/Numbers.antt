@@ -56,7 +56,7 @@ ofCount (write.refused k b) = bears k
 
 -- of a reader of one record, and of a look at one
 abbrev pub ofRead : rec.Told → Number
-ofRead (rec.read x next) = none
+ofRead (rec.read x bit next) = none
 ofRead (rec.refused r) = bears (r .number)
 
 abbrev pub ofSight : rec.Sight → Number

@@ -9,6 +9,7 @@ use Rattle.cells.proofs.Lent.{gives-same}
 use Rattle.reading.proofs.ntske_read_request.Reads as ntske-read-request
 use Rattle.reading.proofs.ntske_read_reply.Reads as ntske-read-reply
 use Rattle.reading.proofs.ntske_read_record.Reads as ntske-read-record
+use Rattle.reading.proofs.ntske_bit_named.Reads as ntske-bit-named
 use Rattle.reading.proofs.ntske_is_utf8.Reads as ntske-is-utf8
 use Rattle.reading.proofs.request_cells.Reads as request-cells
 use Rattle.reading.proofs.reply_cells.Reads as reply-cells
@@ -21,6 +22,9 @@ ntske-read-reply-same κs a r r′ e e′ p q = let g = gives-same (p .gives) (q
 
 pub ntske-read-record-same : (κs : _) (a : _) (r r′ : _) (e e′ : _) → ntske-read-record.Learnt κs a r e → ntske-read-record.Learnt κs a r′ e′ → (r ≡ r′) × (now (e .1 .1 .0) ≡ now (e′ .1 .1 .0))
 ntske-read-record-same κs a r r′ e e′ p q = gives-same p q
+
+pub ntske-bit-named-same : (κs : _) (a : _) (r r′ : _) (e e′ : _) → ntske-bit-named.Learnt κs a r e → ntske-bit-named.Learnt κs a r′ e′ → r ≡ r′
+ntske-bit-named-same κs a r r′ e e′ p q = p ∙ sym q
 
 pub ntske-is-utf8-same : (κs : _) (a : _) (r r′ : _) (e e′ : _) → ntske-is-utf8.Learnt κs a r e → ntske-is-utf8.Learnt κs a r′ e′ → r ≡ r′
 ntske-is-utf8-same κs a r r′ e e′ p q = p ∙ sym q

@@ -3,6 +3,8 @@ use Prim.Native.Nat.{ℕ}
 use mathlib.Core.Path.{_≡_}
 use mathlib.Core.List.{List, [], _∷_}
 use Rattle.layout.specs.declared.Part.{Part}
+use Rattle.layout.specs.declared.Bit.{Bit}
+use Rattle.layout.specs.declared.Bit.the-variants as named
 use Rattle.record.specs.Record as rec
 use Rattle.places.specs.Places.{roomOf}
 use Rattle.request.specs.Request as request
@@ -53,15 +55,23 @@ pub record ReadsReply (m : List ℕ) (n : ℕ) (protocols algorithms table lent 
 
 -- ---- one record: eight cells
 
--- its kind, the bit of an unknown kind, a number, one or two parts, and the place after it
-abbrev pub valueCells : ℕ → rec.Value → ℕ → List ℕ
-valueCells k rec.skipped n = k ∷ 0 ∷ 0 ∷ 0 ∷ 0 ∷ 0 ∷ 0 ∷ n ∷ []
-valueCells k (rec.number x) n = k ∷ 0 ∷ x ∷ 0 ∷ 0 ∷ 0 ∷ 0 ∷ n ∷ []
-valueCells k (rec.part s l) n = k ∷ 0 ∷ 0 ∷ s ∷ l ∷ 0 ∷ 0 ∷ n ∷ []
-valueCells k (rec.halves s l t o) n = k ∷ 0 ∷ 0 ∷ s ∷ l ∷ t ∷ o ∷ n ∷ []
-valueCells k (rec.unknown b s l) n = k ∷ flag b ∷ 0 ∷ s ∷ l ∷ 0 ∷ 0 ∷ n ∷ []
+-- its kind, its bit as received, whatever the kind is, a number, one or two parts, and the place after it. An unknown record's own bit is the one received
+-- (`read-own-bit`, record/proofs/Bits.antt)
+abbrev pub valueCells : ℕ → ℕ → rec.Value → ℕ → List ℕ
+valueCells k b rec.skipped n = k ∷ b ∷ 0 ∷ 0 ∷ 0 ∷ 0 ∷ 0 ∷ n ∷ []
+valueCells k b (rec.number x) n = k ∷ b ∷ x ∷ 0 ∷ 0 ∷ 0 ∷ 0 ∷ n ∷ []
+valueCells k b (rec.part s l) n = k ∷ b ∷ 0 ∷ s ∷ l ∷ 0 ∷ 0 ∷ n ∷ []
+valueCells k b (rec.halves s l t o) n = k ∷ b ∷ 0 ∷ s ∷ l ∷ t ∷ o ∷ n ∷ []
+valueCells k b (rec.unknown own s l) n = k ∷ b ∷ 0 ∷ s ∷ l ∷ 0 ∷ 0 ∷ n ∷ []
 
 -- a refusal's place is the place that was asked for (`record-place`, proofs/Read.antt), so the word has none
 abbrev pub recordGiven : rec.Told → Given
-recordGiven (rec.read x n) = cells (valueCells (x .kind) (x .value) n)
+recordGiven (rec.read x bit n) = cells (valueCells (x .kind) (flag bit) (x .value) n)
 recordGiven (rec.refused r) = refuses (unplaced (r .number) (r .beside))
+
+-- ---- the bit that the table names for a kind: one number
+
+abbrev pub bitCell : Bit → ℕ
+bitCell named.Clear = 0
+bitCell named.Set = 1
+bitCell named.Given = 2

@@ -1,5 +1,6 @@
-// The calls that read a request, a reply and one record, for a host in C or Rust; and the test for UTF-8.
+// The calls that read a request, a reply and one record, for a host in C or Rust; the bit that document 01 names for a kind; and the test for UTF-8.
 use nts::Refusal;
+use record::Bit;
 use record::NtsRecord;
 use record::Parsed;
 use record::Part;
@@ -12,12 +13,13 @@ ghost use mathlib.Core.List.{[], _∷_};
 ghost use Prim.Native.Nat.{_<_};
 ghost use Rattle.utf8.specs.Utf8.{wellFormed};
 ghost use Rattle.nts.specs.Refusal.{toldRefusal};
+ghost use Rattle.layout.specs.Table.{bitNamed};
 ghost use Rattle.record.specs.Record.{readAt};
 ghost use Rattle.record.specs.Told.{kindOfRecord, valueOfRecord};
 ghost use Rattle.request.specs.Request as requests;
 ghost use Rattle.reply.specs.Reply as replies;
 ghost use Rattle.cells.specs.Cells.{word, flag, cells, Gives};
-ghost use Rattle.reading.specs.Read.{requestGiven, ReadsRequest, serverThere, serverName, portThere, portNumber, replyGiven, ReadsReply, recordGiven, valueCells};
+ghost use Rattle.reading.specs.Read.{requestGiven, ReadsRequest, serverThere, serverName, portThere, portNumber, replyGiven, ReadsReply, recordGiven, valueCells, bitCell};
 
 // Reads a request as if the message were cut after `limit` bytes. Answer, ten cells: 1 for a key exchange, then start and length of the protocols and of
 // the algorithms, and how many names are denied; 2 for fixed keys, then start and length of the authentication, of the key from client to
@@ -66,7 +68,7 @@ pub extern "C" fn ntske_read_reply(
     }
 }
 
-// Reads the record at a place. Answer, eight cells: its kind, the critical bit of an unknown kind, the number of kinds 2, 3 and 7, start and length of the
+// Reads the record at a place. Answer, eight cells: its kind, its critical bit as received, the number of kinds 2, 3 and 7, start and length of the
 // body or of the first key, start and length of the second key, and the place after it. Refusals: 1 and 2, at the place that was asked for, which the word
 // does not tell.
 #[no_mangle]
@@ -77,13 +79,26 @@ pub extern "C" fn ntske_read_record(message: &[u8], place: usize, answer: &mut [
     match read {
         Parsed::Read(x) => {
             let item = x.item;
-            *answer = record_cells(item, x.next.at);
+            *answer = record_cells(item, cells::flag_of(x.critical), x.next.at);
             0
         }
         Parsed::Refused(x) => {
             let error = x.error;
             cells::refused(error)
         }
+    }
+}
+
+// The critical bit that document 01 names for a kind, which is the one that a writer sets: 1 set, 0 clear, and 2 where an unknown kind has none of its own.
+#[no_mangle]
+pub extern "C" fn ntske_bit_named(kind: u16) -> u64
+    ensures { λ r. ⌜ r ≡ bitCell (bitNamed kind) ⌝ }
+{
+    let bit = NtsRecord::bit_named(kind);
+    match bit {
+        Bit::Clear => 0,
+        Bit::Set => 1,
+        Bit::Given => 2,
     }
 }
 
@@ -199,45 +214,45 @@ fn port_number(port: Port) -> usize
     }
 }
 
-// A record's kind and values.
-fn record_cells(item: NtsRecord, next: usize) -> [usize; 8]
-    ensures { λ r. ⌜ r ≡ valueCells (kindOfRecord item) (valueOfRecord item) next ⌝ }
+// A record's kind, bit and values.
+fn record_cells(item: NtsRecord, bit: usize, next: usize) -> [usize; 8]
+    ensures { λ r. ⌜ r ≡ valueCells (kindOfRecord item) bit (valueOfRecord item) next ⌝ }
 {
     match item {
-        NtsRecord::EndOfMessage => skipped(0, next),
-        NtsRecord::NextProtocol(body) => parted(1, 0, body, next),
-        NtsRecord::Error(c) => numbered(2, c.0, next),
-        NtsRecord::Warning(c) => numbered(3, c.0, next),
-        NtsRecord::AeadAlgorithm(body) => parted(4, 0, body, next),
-        NtsRecord::NewCookie(body) => parted(5, 0, body, next),
-        NtsRecord::Server(body) => parted(6, 0, body, next),
-        NtsRecord::Port(n) => numbered(7, n, next),
-        NtsRecord::KeepAlive => skipped(8, next),
-        NtsRecord::SupportedNextProtocolList(body) => parted(9, 0, body, next),
-        NtsRecord::SupportedAlgorithmList(body) => parted(10, 0, body, next),
+        NtsRecord::EndOfMessage => skipped(0, bit, next),
+        NtsRecord::NextProtocol(body) => parted(1, bit, body, next),
+        NtsRecord::Error(c) => numbered(2, bit, c.0, next),
+        NtsRecord::Warning(c) => numbered(3, bit, c.0, next),
+        NtsRecord::AeadAlgorithm(body) => parted(4, bit, body, next),
+        NtsRecord::NewCookie(body) => parted(5, bit, body, next),
+        NtsRecord::Server(body) => parted(6, bit, body, next),
+        NtsRecord::Port(n) => numbered(7, bit, n, next),
+        NtsRecord::KeepAlive => skipped(8, bit, next),
+        NtsRecord::SupportedNextProtocolList(body) => parted(9, bit, body, next),
+        NtsRecord::SupportedAlgorithmList(body) => parted(10, bit, body, next),
         NtsRecord::FixedKeyRequest { c2s, s2c } => {
-            [12, 0, 0, c2s.start, c2s.len, s2c.start, s2c.len, next]
+            [12, bit, 0, c2s.start, c2s.len, s2c.start, s2c.len, next]
         }
-        NtsRecord::NtpServerDeny(body) => parted(13, 0, body, next),
-        NtsRecord::Authentication(body) => parted(14, 0, body, next),
+        NtsRecord::NtpServerDeny(body) => parted(13, bit, body, next),
+        NtsRecord::Authentication(body) => parted(14, bit, body, next),
         NtsRecord::Unknown {
             record_type,
-            critical,
+            critical: _,
             data,
-        } => parted(record_type as usize, cells::flag_of(critical), data, next),
+        } => parted(record_type as usize, bit, data, next),
     }
 }
 
-fn skipped(kind: usize, next: usize) -> [usize; 8]
-    ensures { λ r. ⌜ r ≡ kind ∷ 0 ∷ 0 ∷ 0 ∷ 0 ∷ 0 ∷ 0 ∷ next ∷ [] ⌝ }
+fn skipped(kind: usize, bit: usize, next: usize) -> [usize; 8]
+    ensures { λ r. ⌜ r ≡ kind ∷ bit ∷ 0 ∷ 0 ∷ 0 ∷ 0 ∷ 0 ∷ next ∷ [] ⌝ }
 {
-    [kind, 0, 0, 0, 0, 0, 0, next]
+    [kind, bit, 0, 0, 0, 0, 0, next]
 }
 
-fn numbered(kind: usize, n: u16, next: usize) -> [usize; 8]
-    ensures { λ r. ⌜ r ≡ kind ∷ 0 ∷ n ∷ 0 ∷ 0 ∷ 0 ∷ 0 ∷ next ∷ [] ⌝ }
+fn numbered(kind: usize, bit: usize, n: u16, next: usize) -> [usize; 8]
+    ensures { λ r. ⌜ r ≡ kind ∷ bit ∷ n ∷ 0 ∷ 0 ∷ 0 ∷ 0 ∷ next ∷ [] ⌝ }
 {
-    [kind, 0, n as usize, 0, 0, 0, 0, next]
+    [kind, bit, n as usize, 0, 0, 0, 0, next]
 }
 
 fn parted(kind: usize, bit: usize, body: Part, next: usize) -> [usize; 8]

@@ -1,7 +1,7 @@
 -- What is told of an answer tells any two answers apart: it can be turned back into the answer.
 -- Assumes nothing.
 use mathlib.Core.Path.{_≡_, refl, ap}
-use mathlib.Core.Bool.{cond}
+use mathlib.Core.Bool.{Bool, cond}
 use Prim.Native.Nat.{ℕ}
 use native.Mathlib.Omega.{arith}
 use lib.Dec.{eqb}
@@ -71,20 +71,19 @@ record-apart = apart toldRecord record-from record-back
 
 -- ---- what the reader answers
 
-read-item : (x y : Seen) (m n : ℕ) → read x m ≡ read y n → x ≡ y
-read-item x y m n e = cc
-
-read-next : (x y : Seen) (m n : ℕ) → read x m ≡ read y n → m ≡ n
-read-next x y m n e = cc
+pub read-apart : (x y : Seen) (b c : Bool) (m n : ℕ) → read x b m ≡ read y c n → (x ≡ y) × (b ≡ c) × (m ≡ n)
+read-apart x y b c m n e = (cc, cc, cc)
 
 pub cursor-apart : (x y : Cursor) → x .at ≡ y .at → x ≡ y
 cursor-apart x y e = ap (λ (n : ℕ). record { at = n }) e
 
 pub parsed-apart : (x y : Parsed) → toldParsed x ≡ toldParsed y → x ≡ y
 parsed-apart (Read x) (Read y) e =
-    let i = record-apart (x .item) (y .item) (read-item (toldRecord (x .item)) (toldRecord (y .item)) (x .next .at) (y .next .at) e) in
-    let n = cursor-apart (x .next) (y .next) (read-next (toldRecord (x .item)) (toldRecord (y .item)) (x .next .at) (y .next .at) e) in
-    ap Read (λ j. record { item = i j; next = n j })
+    let s = read-apart (toldRecord (x .item)) (toldRecord (y .item)) (x .critical) (y .critical) (x .next .at) (y .next .at) e in
+    let i = record-apart (x .item) (y .item) (s .0) in
+    let b = s .1 in
+    let n = cursor-apart (x .next) (y .next) (s .2) in
+    ap Read (λ j. record { item = i j; critical = b j; next = n j })
 parsed-apart (Read x) (Refused s) e = let z : _≡_ {A = ℕ} 0 1 = cc in absurd (omega arith)
 parsed-apart (Refused r) (Read y) e = let z : _≡_ {A = ℕ} 0 1 = cc in absurd (omega arith)
 parsed-apart (Refused r) (Refused s) e =

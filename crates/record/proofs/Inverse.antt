@@ -14,24 +14,25 @@ use Rattle.layout.specs.declared.Shape.the-variants.{Skipped, Numbers, Number, 
 use Rattle.record.specs.Record.{kind, critical, size, there, fault, Value, skipped, number, part, halves, unknown, valueOf, Seen, seenOf, Told, read, refused, readFrom, whole, broken, lookFrom}
 
 -- a record that was read at the front of t, which begins at `at`
-pub record WasRead (at : ℕ) (t : List ℕ) (x : Seen) (next : ℕ) : Type 0 where
+pub record WasRead (at : ℕ) (t : List ℕ) (x : Seen) (bit : Bool) (next : ℕ) : Type 0 where
   pub faultless : fault t ≡ 0
   pub item : x ≡ seenOf (kind t) (critical t) (at + 4) (size t) (there t)
+  pub marked : bit ≡ critical t
   pub after : next ≡ at + 4 + size t
 
-pub read-was : (at : ℕ) (t : List ℕ) (x : Seen) (next : ℕ) → read x next ≡ readFrom at t → WasRead at t x next
+pub read-was : (at : ℕ) (t : List ℕ) (x : Seen) (bit : Bool) (next : ℕ) → read x bit next ≡ readFrom at t → WasRead at t x bit next
 unfolding readFrom
-read-was at t x next e = go (eqb (fault t) 0) refl e
+read-was at t x bit next e = go (eqb (fault t) 0) refl e
   where
-    go : (b : Bool) → eqb (fault t) 0 ≡ b → read x next ≡ cond b (read (seenOf (kind t) (critical t) (at + 4) (size t) (there t)) (at + 4 + size t)) (refused (record { number = fault t; beside = nothing; place = at })) → WasRead at t x next
-    go true z q = record { faultless = eqb-true (fault t) 0 z; item = cc; after = cc }
+    go : (b : Bool) → eqb (fault t) 0 ≡ b → read x bit next ≡ cond b (read (seenOf (kind t) (critical t) (at + 4) (size t) (there t)) (critical t) (at + 4 + size t)) (refused (record { number = fault t; beside = nothing; place = at })) → WasRead at t x bit next
+    go true z q = record { faultless = eqb-true (fault t) 0 z; item = cc; marked = cc; after = cc }
     go false z q = let o : _≡_ {A = ℕ} 0 1 = cc in absurd (omega arith)
 
 pub refused-was : (at : ℕ) (t : List ℕ) (r : Refused) → refused r ≡ readFrom at t → (fault t ≡ 0 → ⊥) × (r ≡ record { number = fault t; beside = nothing; place = at })
 unfolding readFrom
 refused-was at t r e = go (eqb (fault t) 0) refl e
   where
-    go : (b : Bool) → eqb (fault t) 0 ≡ b → refused r ≡ cond b (read (seenOf (kind t) (critical t) (at + 4) (size t) (there t)) (at + 4 + size t)) (refused (record { number = fault t; beside = nothing; place = at })) → (fault t ≡ 0 → ⊥) × (r ≡ record { number = fault t; beside = nothing; place = at })
+    go : (b : Bool) → eqb (fault t) 0 ≡ b → refused r ≡ cond b (read (seenOf (kind t) (critical t) (at + 4) (size t) (there t)) (critical t) (at + 4 + size t)) (refused (record { number = fault t; beside = nothing; place = at })) → (fault t ≡ 0 → ⊥) × (r ≡ record { number = fault t; beside = nothing; place = at })
     go true z q = let o : _≡_ {A = ℕ} 0 1 = cc in absurd (omega arith)
     go false z q = (eqb-false (fault t) 0 z, cc)
 

@@ -4,5 +4,7 @@ pub mod Entry
 pub mod Apart
 pub mod Same
 pub mod Inverse
+pub mod Bits
+pub mod Canonical
 pub mod Trip
 pub mod Whole

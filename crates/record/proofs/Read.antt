@@ -74,7 +74,7 @@ module _ (at : ℕ) (t : List ℕ) (w n k : ℕ) (l : Shape) (b : List ℕ) (f :
   unfolding readFrom fault kind size there
   faulty z = simp (le-ltb _ _ here, sym ew, sym en, sym ek, sym el, sym eb, sym ef, ne-eqb _ _ z)
 
-  pub faultless : f ≡ 0 → (bit : Bool) (x : Seen) → bit ≡ criticalOf w → x ≡ seenOf k bit (at + 4) n b → read x (at + 4 + n) ≡ readFrom at t
+  pub faultless : f ≡ 0 → (bit : Bool) (x : Seen) → bit ≡ criticalOf w → x ≡ seenOf k bit (at + 4) n b → read x bit (at + 4 + n) ≡ readFrom at t
   unfolding readFrom fault kind critical size there
   faultless z bit x e r = simp (le-ltb _ _ here, sym ew, sym en, sym ek, sym el, sym eb, sym ef, eq-eqb _ _ z, sym e, sym r)
 

@@ -7,6 +7,7 @@ use Rattle.record.proofs.Apart.{cursor-apart, parsed-apart, looked-apar
 use Rattle.record.proofs.NtsRecord.parse.Reads as parse
 use Rattle.record.proofs.NtsRecord.serialize.Reads as serialize
 use Rattle.record.proofs.NtsRecord.length.Reads as length
+use Rattle.record.proofs.NtsRecord.bit_named.Reads as bit-named
 use Rattle.record.proofs.Cursor.new.Reads as new
 use Rattle.record.proofs.Cursor.read.Reads as read
 use Rattle.record.proofs.look.Reads as look
@@ -37,6 +38,9 @@ description-at-same κs a r r′ e e′ p q = pair-apart r r′ (p ∙ sym q)
 
 pub NtsRecord-length-same : (κs : _) (a : _) (r r′ : _) (e e′ : _) → length.Learnt κs a r e → length.Learnt κs a r′ e′ → r ≡ r′
 NtsRecord-length-same κs a r r′ e e′ p q = count-apart r r′ (p ∙ sym q)
+
+pub NtsRecord-bit-named-same : (κs : _) (a : _) (r r′ : _) (e e′ : _) → bit-named.Learnt κs a r e → bit-named.Learnt κs a r′ e′ → r ≡ r′
+NtsRecord-bit-named-same κs a r r′ e e′ p q = p ∙ sym q
 
 -- a writer's output afterwards is among what the contract determines
 pub NtsRecord-serialize-same : (κs : _) (a : _) (r r′ : _) (e e′ : _) → serialize.Learnt κs a r e → serialize.Learnt κs a r′ e′ → (r ≡ r′) × (now (e .1 .1 .0) ≡ now (e′ .1 .1 .0))

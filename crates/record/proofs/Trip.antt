@@ -15,7 +15,7 @@ use Rattle.utf8.specs.Utf8.{wellFormed}
 use Rattle.utf8.proofs.Tests.{on}
 use Rattle.wire.specs.Bytes.{numberAt, partAt}
 use Rattle.wire.specs.Over.{bytesOf}
-use Rattle.wire.proofs.Bytes.{number-back, number-drop, length-part, part-empty, part-between, part-join, part-at, bytes-back}
+use Rattle.wire.proofs.Bytes.{number-back, number-drop, length-part, part-empty, part-between, part-join, part-at, bytes-back, small-part}
 use Rattle.nts.specs.Refusal.{nothing}
 use Rattle.layout.specs.Table.{rowOf, shapeOf, bitOf, isUnknown}
 use Rattle.layout.specs.Write.{isSound, isRecord, isNumber, bodySize, bodyOf, wordOf, header, recordBytes, bytes, measured}
@@ -28,11 +28,12 @@ use Rattle.layout.proofs.Writing.{sound, sound-record, length-body, just-long, 
 use Rattle.record.specs.Record.{kindOf, criticalOf, kind, critical, size, there, short, uneven, notNumber, notHalves, notUtf8, firstOf, notName, faultOf, fault, Value, skipped, number, part, halves, unknown, valueOf, Seen, seenOf, read, refused, readFrom, readAt}
 use Rattle.record.specs.Told.{kindOfRecord, valueOfRecord, toldRecord}
 use Rattle.record.specs.Laid.{none, layoutBy, layoutOf}
-use Rattle.record.specs.Shown.{heldIn, shown, givenBy, givenBit, canonical}
+use Rattle.record.specs.Shown.{heldIn, shown, givenBy, givenBit, canonical, IsCanonical}
 use Rattle.record.specs.Shown as held
 use Rattle.record.specs.declared.NtsRecord.{NtsRecord}
 use Rattle.record.specs.declared.NtsRecord.the-variants as r
 use Rattle.record.proofs.Read.{faultless}
+use Rattle.record.proofs.Canonical.{canonical-same, same-canonical, header-taken}
 
 -- a layout by its kind, the bit written, what the body holds, and its parts; one part alone has an empty second
 abbrev laid : ℕ → Bool → Shape → Part → Part → Layout
@@ -112,7 +113,7 @@ module _ (l : Layout) (s t : List ℕ) where
 
   -- a record that was written, as it is read at the place `at`
   read-back : (at : ℕ) → isRecord l s ≡ true → shapeOf (l .kind) ≡ l .shape → Good (l .shape) (bodySize l) (bodyOf l s)
-      → readFrom at (recordBytes l s ++ t) ≡ read (seenOf (l .kind) (l .critical) (at + 4) (bodySize l) (bodyOf l s)) (at + 4 + bodySize l)
+      → readFrom at (recordBytes l s ++ t) ≡ read (seenOf (l .kind) (l .critical) (at + 4) (bodySize l) (bodyOf l s)) (l .critical) (at + 4 + bodySize l)
   read-back at is e g =
       let k = sound l s is .kind in
       let b : bodyOf l s ≡ take (bodySize l) (drop 4 (recordBytes l s ++ t)) =
@@ -260,10 +261,11 @@ laid-bit k (halves a n b m) s is = refl
 laid-bit k (unknown bit a n) s is = sym (unknown-bit k bit (sound (layoutBy k (unknown bit a n)) s is .body))
 
 module _ (x : NtsRecord) (s : List ℕ) (n : ℕ) (m : measured (layoutOf x) s ≡ bytes n) where
-  -- a record that was written, anywhere in a message, is read back: exactly its bytes are taken, and it holds the same
+  -- a record that was written, anywhere in a message, is read back: exactly its bytes are taken, it holds the same, and its bit is the one that the
+  -- table says, and of an unknown record the one given
   pub written-read : (p t : List ℕ)
       → (y : Seen)
-      × (readAt (p ++ (recordBytes (layoutOf x) s ++ t)) (length p) ≡ read y (length p + n))
+      × (readAt (p ++ (recordBytes (layoutOf x) s ++ t)) (length p) ≡ read y (bitOf (kindOfRecord x) (givenBit x)) (length p + n))
       × (shown y (p ++ (recordBytes (layoutOf x) s ++ t)) ≡ shown (toldRecord x) s)
   unfolding readAt shown seenOf
   written-read p t =
@@ -278,7 +280,7 @@ module _ (x : NtsRecord) (s : List ℕ) (n : ℕ) (m : measured (layoutOf x) s �
       let held : heldIn (p ++ (recordBytes l s ++ t)) (y .value) ≡ heldIn s (valueOfRecord x) =
       rw (e, cut-body l s t p) (f .same q t (length p + 4) (length-before p (wordOf (l .kind) (l .critical)) (bodySize l))) in (
         y,
-        ap (readFrom (length p)) (drop-at p (recordBytes l s ++ t) (length p) refl) ∙ read-back l s t (length p) is e (f .good) ∙ ap (read y) h,
+        ap (readFrom (length p)) (drop-at p (recordBytes l s ++ t) (length p) refl) ∙ read-back l s t (length p) is e (f .good) ∙ (λ j. read y (laid-bit (kindOfRecord x) (valueOfRecord x) s is j) (h j)),
         λ j. record { kind = told-kind x j; held = held j },
       )
 
@@ -483,22 +485,23 @@ module _ (m : List ℕ) (c : Bool) (start n : ℕ) (h : start + n ≤ length m) 
 
 -- ---- what a reader found, where it found a record
 
-record Found (at : ℕ) (u : List ℕ) (y : Seen) (next : ℕ) : Type 0 where
+record Found (at : ℕ) (u : List ℕ) (y : Seen) (bit : Bool) (next : ℕ) : Type 0 where
   none : fault u ≡ 0
+  marked : critical u ≡ bit
   same : kind u ≡ y .kind
   value : valueOf (shapeOf (kind u)) (critical u) (at + 4) (size u) (there u) ≡ y .value
   end : at + 4 + size u ≡ next
 
-found : (at : ℕ) (u : List ℕ) (y : Seen) (next : ℕ) → readFrom at u ≡ read y next → Found at u y next
+found : (at : ℕ) (u : List ℕ) (y : Seen) (bit : Bool) (next : ℕ) → readFrom at u ≡ read y bit next → Found at u y bit next
 unfolding readFrom seenOf
-found at u y next e =
+found at u y bit next e =
     on (eqb (fault u) 0)
     (λ t.
-    let f : read (seenOf (kind u) (critical u) (at + 4) (size u) (there u)) (at + 4 + size u) ≡ read y next = rw t at e in
+    let f : read (seenOf (kind u) (critical u) (at + 4) (size u) (there u)) (critical u) (at + 4 + size u) ≡ read y bit next = rw t at e in
     let s : seenOf (kind u) (critical u) (at + 4) (size u) (there u) ≡ y = cc in
-    record { none = eqb-true (fault u) 0 t; same = ap (λ (z : Seen). z .kind) s; value = ap (λ (z : Seen). z .value) s; end = cc })
+    record { none = eqb-true (fault u) 0 t; marked = cc; same = ap (λ (z : Seen). z .kind) s; value = ap (λ (z : Seen). z .value) s; end = cc })
     (λ t.
-    let f : refused (record { number = fault u; beside = nothing; place = at }) ≡ read y next = rw t at e in
+    let f : refused (record { number = fault u; beside = nothing; place = at }) ≡ read y bit next = rw t at e in
     let z : _≡_ {A = ℕ} 0 1 = cc in
     absurd (omega arith))
 
@@ -556,22 +559,25 @@ small-size : (m : List ℕ) (at : ℕ) → ((i : ℕ) → getD m i 0 < 256) → 
 unfolding size numberAt
 small-size m at small = rw (getD-drop, getD-drop) (omega (arith, small (at + 2), small (at + 3)))
 
-pub record Rewritten (x : NtsRecord) (m : List ℕ) (at next : ℕ) : Type 0 where
+pub record Rewritten (x : NtsRecord) (m : List ℕ) (at : ℕ) (bit : Bool) (next : ℕ) : Type 0 where
   pub count : ℕ
   pub measures : measured (layoutOf x) m ≡ bytes count
   pub within : count ≤ next - at
   pub whole : (layoutOf x .kind ≡ 0 → ⊥) → (layoutOf x .kind ≡ 8 → ⊥) → count ≡ next - at
   pub same : recordBytes (layoutOf x) m ≡ canonical (take (next - at) (drop at m))
+  -- in the bytes that were read exactly if the record is as `IsCanonical` says
+  pub alike : IsCanonical (kindOfRecord x) bit (next - (at + 4)) → recordBytes (layoutOf x) m ≡ take (next - at) (drop at m)
+  pub only-alike : recordBytes (layoutOf x) m ≡ take (next - at) (drop at m) → IsCanonical (kindOfRecord x) bit (next - (at + 4))
 
 -- a record that was read from a message of bytes is written back
-pub read-written : (x : NtsRecord) (m : List ℕ) (at next : ℕ) → ((i : ℕ) → getD m i 0 < 256) → readAt m at ≡ read (toldRecord x) next
-    → Rewritten x m at next
+pub read-written : (x : NtsRecord) (m : List ℕ) (at : ℕ) (bit : Bool) (next : ℕ) → ((i : ℕ) → getD m i 0 < 256) → readAt m at ≡ read (toldRecord x) bit next
+    → Rewritten x m at bit next
 unfolding readAt
-read-written x m at next small e =
+read-written x m at bit next small e =
     let u = drop at m in
     let l = layoutOf x in
     let n = size u in
-    let f = found at u (toldRecord x) next e in
+    let f = found at u (toldRecord x) bit next e in
     let w = whole-header u (f .none) in
     let g = faultless-good (shapeOf (kind u)) n (there u) (w .1) in
     let t = there-part m at (w .0) (g .0) in
@@ -582,10 +588,16 @@ read-written x m at next small e =
     (rw (k, ← (t .1)) (f .value)) in
     let d : next - at ≡ 4 + n = omega (arith, f .end) in
     let fits : n ≤ 65535 = small-size m at small in
+    let s : recordBytes l m ≡ canonical (take (next - at) u) = rw (record-there u (next - at) d) (written-canonical l m u b k (t .1) (w .0) (rw getD-drop (small (at + 3)))) in
+    let h = header-taken u (next - at) (omega arith) in
+    let body : size u ≡ next - (at + 4) = omega (arith, f .end) in
+    let long : length (take (next - at) u) ≡ 4 + size (take (next - at) u) = length-take (next - at) u ∙ omega (arith, h .2, length-drop at m, t .0) in
     record {
       count = 4 + bodySize l;
       measures = sym (just-long l m (b .is) (omega (arith, b .within)));
       within = omega (arith, b .within);
       whole = λ i j. omega (arith, b .whole i j);
-      same = rw (record-there u (next - at) d) (written-canonical l m u b k (t .1) (w .0) (rw getD-drop (small (at + 3))));
+      same = s;
+      alike = λ c. s ∙ canonical-same (take (next - at) u) (small-part m (next - at) at small) long (rw (h .0, h .1, h .2, f .same, f .marked, body) c);
+      only-alike = λ q. rw (h .0, h .1, h .2, f .same, f .marked, body) at (same-canonical (take (next - at) u) (sym s ∙ q));
     }

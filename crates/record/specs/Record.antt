@@ -92,7 +92,7 @@ pub data Value : Type 0 where
   halves : ℕ → ℕ → ℕ → ℕ → Value
   unknown : Bool → ℕ → ℕ → Value
 
--- the body b of n bytes that begins at `start`; the bit counts only for an unknown kind
+-- the body b of n bytes that begins at `start`; an unknown record keeps the bit for itself, since it is written as given
 unfoldable pub valueOf : Shape → Bool → ℕ → ℕ → List ℕ → Value
 valueOf Skipped bit start n b = skipped
 valueOf Number bit start n b = number (numberAt b 0)
@@ -107,20 +107,20 @@ pub record Seen : Type 0 where
   pub kind : ℕ
   pub value : Value
 
--- what a reader of one record answers
+-- what a reader of one record answers: the record, its bit as received, whatever its kind, and the place after it
 pub data Told : Type 0 where
-  read : Seen → ℕ → Told
+  read : Seen → Bool → ℕ → Told
   refused : Refused → Told
 
 -- a record of a kind, with its bit, its body's start and size, and its body
 unfoldable pub seenOf : ℕ → Bool → ℕ → ℕ → List ℕ → Seen
 seenOf k bit start n b = record { kind = k; value = valueOf (shapeOf k) bit start n b }
 
--- the record at the front of s, which begins at `at`, and the place after it: it takes exactly 4 + size bytes
+-- the record at the front of s, which begins at `at`, its bit, and the place after it: it takes exactly 4 + size bytes
 unfoldable pub readFrom : ℕ → List ℕ → Told
 readFrom at s =
     cond (eqb (fault s) 0)
-    (read (seenOf (kind s) (critical s) (at + 4) (size s) (there s)) (at + 4 + size s))
+    (read (seenOf (kind s) (critical s) (at + 4) (size s) (there s)) (critical s) (at + 4 + size s))
     (refused (record { number = fault s; beside = nothing; place = at }))
 
 -- the record at a place of a message; past its end nothing is there

@@ -1,5 +1,6 @@
 -- What a record holds, whichever message its parts lie in, and what a writer makes of a record that was read: 01, "The record".
 use Prim.Native.Nat.{ℕ}
+use mathlib.Core.Path.{_≡_}
 use mathlib.Core.List.{List, _++_}
 use mathlib.Core.Bool.{Bool, false, cond}
 use lib.ListN.{drop}
@@ -49,3 +50,10 @@ givenBit x = givenBy (valueOfRecord x)
 -- and the body is left out; no other byte changes
 unfoldable pub canonical : List ℕ → List ℕ
 canonical s = bytesOf (wordOf (kind s) (bitOf (kind s) (critical s))) ++ cond (isSkipped (kind s)) (bytesOf 0) (drop 2 s)
+
+-- which records are written in the very bytes that were read: of a kind, the bit received and the body's size. 02, order 4: the bit is the one that is
+-- written, and the body of an end record (0) or a keep-alive record (8) is empty
+pub record IsCanonical (k : ℕ) (bit : Bool) (n : ℕ) : Type 0 where
+  pub as-written : bit ≡ bitOf k bit
+  pub end-empty : k ≡ 0 → n ≡ 0
+  pub keep-alive-empty : k ≡ 8 → n ≡ 0

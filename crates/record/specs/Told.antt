@@ -63,7 +63,7 @@ abbrev pub toldRecord : NtsRecord → Seen
 toldRecord r = record { kind = kindOfRecord r; value = valueOfRecord r }
 
 abbrev pub toldParsed : Parsed → Told
-toldParsed (Read x) = read (toldRecord (x .item)) (x .next .at)
+toldParsed (Read x) = read (toldRecord (x .item)) (x .critical) (x .next .at)
 toldParsed (Refused r) = refused (toldRefusal r)
 
 abbrev pub toldLooked : Looked → Sight

@@ -1,9 +1,11 @@
 // One record of the NTS key exchange: what it can be, how it is read and how it is written (the crate's src/nts/record.rs).
 mod write;
 
+pub use layout::Bit;
 pub use layout::ByteCount;
 use layout::Layout;
 pub use layout::Part;
+use layout::Row;
 use layout::Shape;
 pub use layout::put_header;
 use nts::AeadAlgorithm;
@@ -17,7 +19,7 @@ ghost use mathlib.Core.Path.{_≡_};
 ghost use Prim.Native.Nat.{_+_, _/_, _<_, _≤_, _^_};
 ghost use lib.ListN.{length, take, drop};
 ghost use Rattle.wire.specs.Bytes.{partAt};
-ghost use Rattle.layout.specs.Table.{shapeOf};
+ghost use Rattle.layout.specs.Table.{rowOf, shapeOf};
 ghost use Rattle.record.specs.Record.{kindOf, criticalOf, short, uneven, notNumber, notHalves, notUtf8, firstOf, notName, faultOf, seenOf, readAt, lookAt};
 ghost use Rattle.record.specs.Entry.{numberIn, pairIn};
 ghost use Rattle.record.specs.Told.{toldFault, toldRecord, toldParsed, toldLooked, toldNumber, toldProtocol, toldAlgorithm, toldPair};
@@ -53,9 +55,10 @@ pub struct Cursor {
     pub at: usize,
 }
 
-// A record that was read, with the place after it.
+// A record that was read, with its critical bit as received, of every kind, and the place after it.
 pub struct Reading {
     pub item: NtsRecord,
+    pub critical: bool,
     pub next: Cursor,
 }
 
@@ -143,7 +146,7 @@ impl NtsRecord {
 
     pub const HEADER: usize = Layout::HEADER;
 
-    // The record at a place of a message, or its first fault at that place. A place past the end is 1 there.
+    // The record at a place of a message, with its bit as received, or its first fault at that place. A place past the end is 1 there.
     pub fn parse(message: &[u8], at: usize) -> Parsed
         ensures { λ r. ⌜ toldParsed r ≡ readAt (now (message .entry)) at ⌝ }
     {
@@ -155,17 +158,21 @@ impl NtsRecord {
             return refused(NtsError::UnexpectedEof, at);
         }
         let word = wire::number_at(rest, 0);
-        let size = wire::number_at(rest, 2) as usize;
+        let stated = wire::number_at(rest, 2);
+        let size = stated as usize;
         let kind = kind_of(word);
         let body = there(rest, size);
         let fault = fault_of(shape_of(kind), size, body);
         match fault {
             Fault::None => {
                 let start = at + NtsRecord::HEADER;
-                let item = record_of(kind, is_critical(word), start, size, body);
+                let end = start + size;
+                let critical = is_critical(word);
+                let item = record_of(kind, critical, start, size, body);
                 Parsed::Read(Reading {
                     item,
-                    next: Cursor { at: start + size },
+                    critical,
+                    next: Cursor { at: end },
                 })
             }
             Fault::Short => refused(NtsError::UnexpectedEof, at),
@@ -253,26 +260,39 @@ fn there(rest: &[u8], size: usize) -> &[u8]
     &rest[NtsRecord::HEADER..end]
 }
 
+// 01's table by kind, from which reading and writing both take.
+fn row_of(kind: u16) -> Row
+    ensures { λ r. ⌜ r ≡ rowOf kind ⌝ }
+{
+    match kind {
+        NtsRecord::END_OF_MESSAGE => row(Shape::Skipped, Bit::Set),
+        NtsRecord::NEXT_PROTOCOL => row(Shape::Numbers, Bit::Set),
+        NtsRecord::ERROR => row(Shape::Number, Bit::Set),
+        NtsRecord::WARNING => row(Shape::Number, Bit::Set),
+        NtsRecord::AEAD_ALGORITHM => row(Shape::Numbers, Bit::Set),
+        NtsRecord::NEW_COOKIE => row(Shape::Bytes, Bit::Clear),
+        NtsRecord::SERVER => row(Shape::Name, Bit::Set),
+        NtsRecord::PORT => row(Shape::Number, Bit::Set),
+        NtsRecord::KEEP_ALIVE => row(Shape::Skipped, Bit::Clear),
+        NtsRecord::SUPPORTED_NEXT_PROTOCOL_LIST => row(Shape::Numbers, Bit::Set),
+        NtsRecord::SUPPORTED_ALGORITHM_LIST => row(Shape::Pairs, Bit::Set),
+        NtsRecord::FIXED_KEY_REQUEST => row(Shape::Halves, Bit::Set),
+        NtsRecord::NTP_SERVER_DENY => row(Shape::Name, Bit::Clear),
+        NtsRecord::AUTHENTICATION => row(Shape::Name, Bit::Clear),
+        _ => row(Shape::Unknown, Bit::Given),
+    }
+}
+
+fn row(body: Shape, bit: Bit) -> Row
+    ensures { λ r. ⌜ r ≡ record { body = body; bit = bit } ⌝ }
+{
+    Row { body, bit }
+}
+
 fn shape_of(kind: u16) -> Shape
     ensures { λ r. ⌜ r ≡ shapeOf kind ⌝ }
 {
-    match kind {
-        NtsRecord::END_OF_MESSAGE => Shape::Skipped,
-        NtsRecord::NEXT_PROTOCOL => Shape::Numbers,
-        NtsRecord::ERROR => Shape::Number,
-        NtsRecord::WARNING => Shape::Number,
-        NtsRecord::AEAD_ALGORITHM => Shape::Numbers,
-        NtsRecord::NEW_COOKIE => Shape::Bytes,
-        NtsRecord::SERVER => Shape::Name,
-        NtsRecord::PORT => Shape::Number,
-        NtsRecord::KEEP_ALIVE => Shape::Skipped,
-        NtsRecord::SUPPORTED_NEXT_PROTOCOL_LIST => Shape::Numbers,
-        NtsRecord::SUPPORTED_ALGORITHM_LIST => Shape::Pairs,
-        NtsRecord::FIXED_KEY_REQUEST => Shape::Halves,
-        NtsRecord::NTP_SERVER_DENY => Shape::Name,
-        NtsRecord::AUTHENTICATION => Shape::Name,
-        _ => Shape::Unknown,
-    }
+    row_of(kind).body
 }
 
 // The fault of a body that is to be `size` bytes long and of which `body` is there.
@@ -367,9 +387,9 @@ fn first_of(fault: Fault, next: Fault) -> Fault
 }
 
 // The record of a kind whose body, `size` bytes from `start` on, has no fault.
-fn record_of(kind: u16, critical: bool, start: usize, size: usize, body: &[u8]) -> NtsRecord
+fn record_of(kind: u16, bit: bool, start: usize, size: usize, body: &[u8]) -> NtsRecord
     requires { ⌜ start + size < 2 ^ 64 ⌝ }
-    ensures { λ r. ⌜ toldRecord r ≡ seenOf kind critical start size (now (body .entry)) ⌝ }
+    ensures { λ r. ⌜ toldRecord r ≡ seenOf kind bit start size (now (body .entry)) ⌝ }
 {
     let data = Part { start, len: size };
     match kind {
@@ -389,7 +409,7 @@ fn record_of(kind: u16, critical: bool, start: usize, size: usize, body: &[u8]) 
         NtsRecord::AUTHENTICATION => NtsRecord::Authentication(data),
         _ => NtsRecord::Unknown {
             record_type: kind,
-            critical,
+            critical: bit,
             data,
         },
     }

@@ -1,6 +1,8 @@
 // Writing one record: it is laid out by 01's table, and the layout is written.
 use super::NtsRecord;
+use super::row_of;
 use super::shape_of;
+use layout::Bit;
 use layout::ByteCount;
 use layout::Layout;
 use layout::Part;
@@ -8,7 +10,7 @@ use layout::Shape;
 ghost use mathlib.Core.Path.{_≡_};
 ghost use mathlib.Core.Bool.{false};
 ghost use lib.ListN.{length};
-ghost use Rattle.layout.specs.Table.{bitOf};
+ghost use Rattle.layout.specs.Table.{bitNamed, bitOf};
 ghost use Rattle.layout.specs.Write.{recordBytes, measured, written, toldCount, Wrote};
 ghost use Rattle.record.specs.Laid.{none, laid, layoutOf};
 
@@ -27,6 +29,13 @@ impl NtsRecord {
         ensures { λ r. ⌜ toldCount r ≡ measured (layoutOf self) (now (source .entry)) ⌝ }
     {
         layout_of(self).length(source)
+    }
+
+    // The column "Bit written" of 01's table; an unknown kind has none of its own.
+    pub fn bit_named(kind: u16) -> Bit
+        ensures { λ r. ⌜ r ≡ bitNamed kind ⌝ }
+    {
+        row_of(kind).bit
     }
 }
 
@@ -78,26 +87,15 @@ fn layout_of(item: NtsRecord) -> Layout
 
 const NONE: Part = Part { start: 0, len: 0 };
 
-// The column "Bit written" of 01's table; an unknown kind has none of its own.
+// The bit of a known kind.
 fn bit_of(kind: u16) -> bool
     ensures { λ r. ⌜ r ≡ bitOf kind false ⌝ }
 {
-    match kind {
-        NtsRecord::END_OF_MESSAGE => true,
-        NtsRecord::NEXT_PROTOCOL => true,
-        NtsRecord::ERROR => true,
-        NtsRecord::WARNING => true,
-        NtsRecord::AEAD_ALGORITHM => true,
-        NtsRecord::NEW_COOKIE => false,
-        NtsRecord::SERVER => true,
-        NtsRecord::PORT => true,
-        NtsRecord::KEEP_ALIVE => false,
-        NtsRecord::SUPPORTED_NEXT_PROTOCOL_LIST => true,
-        NtsRecord::SUPPORTED_ALGORITHM_LIST => true,
-        NtsRecord::FIXED_KEY_REQUEST => true,
-        NtsRecord::NTP_SERVER_DENY => false,
-        NtsRecord::AUTHENTICATION => false,
-        _ => false,
+    let bit = NtsRecord::bit_named(kind);
+    match bit {
+        Bit::Set => true,
+        Bit::Clear => false,
+        Bit::Given => false,
     }
 }
 

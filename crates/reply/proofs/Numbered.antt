@@ -7,10 +7,11 @@ use Prim.Native.Nat.{ℕ, _<_}
 use lib.ListN.{length}
 use lib.Dec.{ltb, eqb}
 use Rattle.wire.specs.Bytes.{numberAt}
+use Rattle.wire.proofs.Bytes.{Small, small-part, number-small}
 use Rattle.nts.specs.Refusal.{nothing, code, Refused}
 use Rattle.walk.specs.Walk.{notes, Sighting}
 use Rattle.walk.specs.Judge.{Terms, bodyIn, refused}
-use Rattle.walk.proofs.Numbered.{Small, small-part, coded, Numbered, bare, ActBy, VerdictBy, number-small, act-if, act-by, verdict-if, verdict-first, refused-numbered}
+use Rattle.walk.proofs.Numbered.{coded, Numbered, bare, ActBy, VerdictBy, act-if, act-by, verdict-if, verdict-first, refused-numbered}
 use Rattle.reply.specs.Reply.{act, reader, decide, judging, replyOf}
 
 -- P says of a number that it may be told: what holds of these eleven holds of the number of every refusal

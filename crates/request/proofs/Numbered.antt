@@ -7,11 +7,12 @@ use Prim.Native.Nat.{ℕ, _/_}
 use lib.ListN.{length}
 use lib.Dec.{ltb, eqb}
 use Rattle.wire.specs.Bytes.{numberAt}
+use Rattle.wire.proofs.Bytes.{small-part, number-small}
 use Rattle.nts.specs.Refusal.{nothing, Refused}
 use Rattle.nts.specs.Algorithm.{Described, known, unknown, describe}
 use Rattle.walk.specs.Walk.{passes, notes, Sighting, stopped, walk}
 use Rattle.walk.specs.Judge.{roomFor, some, bodyIn, refused}
-use Rattle.walk.proofs.Numbered.{Numbered, bare, ActBy, VerdictBy, small-part, number-small, act-if, act-by, verdict-if, verdict-first, stopped-numbered, refused-numbered}
+use Rattle.walk.proofs.Numbered.{Numbered, bare, ActBy, VerdictBy, act-if, act-by, verdict-if, verdict-first, stopped-numbered, refused-numbered}
 use Rattle.request.specs.Request.{act, reader, Form, keyed, fixedBy, decide, judging, request}
 
 -- ---- the walk

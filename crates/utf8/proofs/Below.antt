@@ -20,7 +20,7 @@ below (suc n) f t k h =
     ⊎-elim (λ e. rw e (and-left (f n) (every n f) t)) (λ l. below n f (and-right (f n) (every n f) t) k l)
     (eq-or-lt-of-le (le-of-suc-le-suc h))
 
-beq→eq : (a b : Bool) → Bool·beq a b ≡ true → a ≡ b
+pub beq→eq : (a b : Bool) → Bool·beq a b ≡ true → a ≡ b
 beq→eq true true e = refl
 beq→eq true false e = sym e
 beq→eq false true e = e

@@ -1,16 +1,17 @@
 -- What a walk meets from a place on, by a look at the record there and by where the walk stops: the record that stops it is the last.
 -- Assumes nothing.
-use mathlib.Core.Path.{_≡_, refl, sym, ap, _∙_}
+use mathlib.Core.Path.{_≡_, refl, sym, ap, subst, _∙_}
 use mathlib.Core.List.{List, [], _∷_, _++_}
 use mathlib.Core.Bool.{Bool, true, false, cond, _&&_}
 use Prim.Native.Nat.{ℕ, zero, suc, _+_, _<_, _≤_}
 use native.Mathlib.Omega.{arith}
-use lib.ListN.{length, drop, length-drop}
+use lib.Dec.{eqb}
+use lib.ListN.{length, drop, length-append, length-drop}
 use lib.Seq.{drop-drop}
-use borrow.Author.Tests.{eq-eqb, ne-eqb}
+use borrow.Author.Tests.{eqb-true, eq-eqb, ne-eqb}
 use Rattle.nts.specs.Refusal.{nothing, Refused}
 use Rattle.layout.specs.Table.{shapeOf}
-use Rattle.record.specs.Record.{kind, critical, size, fault, whole, broken, lookAt}
+use Rattle.record.specs.Record.{kind, critical, size, fault, whole, broken, lookFrom, lookAt}
 use Rattle.record.proofs.Inverse.{whole-was, broken-was}
 use Rattle.record.proofs.Read.{look-inside}
 use Rattle.walk.specs.Walk.{Act, ends, passes, notes, refuses, Reader, Sighting, Outcome, stopped, ended, Step, stops, goes, has, meet, judge, step, faultIn, actIn, walk}
@@ -119,3 +120,55 @@ module _ (act : ℕ → Bool → List ℕ → Act) (once : ℕ → Bool) (s : Li
           meets = met ∙ ap (λ (x : Step). mark ∷ onward x (λ st′. shown R st′ (at + 4 + n) 0 (drop (at + 4 + n) s))) q;
           walks = walked ∙ ap (λ (x : Step). after x (λ st′. walk R st′ (at + 4 + n) 0 (drop (at + 4 + n) s))) q;
         }
+
+  -- ---- each record that is met reads whole at its place
+
+  -- a list with an element in it has a first one
+  some-met : (l₁ l₂ : List Mark) (x : Mark) → [] ≡ l₁ ++ (x ∷ l₂) → ⊥
+  some-met l₁ l₂ x q = let n : 0 ≡ length (l₁ ++ (x ∷ l₂)) = ap length q in omega (arith, length-append l₁ (x ∷ l₂))
+
+  first-met : (y x : Mark) (l l₂ : List Mark) → y ∷ l ≡ [] ++ (x ∷ l₂) → y ≡ x
+  first-met y x l l₂ q = cc
+
+  later-met : (y z x : Mark) (l l₁ l₂ : List Mark) → y ∷ l ≡ z ∷ l₁ ++ (x ∷ l₂) → l ≡ l₁ ++ (x ∷ l₂)
+  later-met y z x l l₁ l₂ q = cc
+
+  abbrev Looked : Mark → Type 0
+  Looked x = lookAt s (x .place) ≡ whole (x .kind) (x .critical) (x .size)
+
+  looked-here : (at : ℕ) (t : List ℕ) → t ≡ drop at s → fault t ≡ 0 → Looked (markAt at t)
+  unfolding lookAt lookFrom
+  looked-here at t e z = ap (lookFrom at) (sym e) ∙ rw (eq-eqb (fault t) 0 z)
+
+  met-looked : (st : List Sighting) (at k : ℕ) (u : List ℕ) → drop k u ≡ drop at s → (l₁ l₂ : List Mark) (x : Mark) → shown R st at k u ≡ l₁ ++ (x ∷ l₂) → Looked x
+  unfolding shown faultIn fault
+  met-looked st at k [] e l₁ l₂ x q = absurd (some-met l₁ l₂ x q)
+  met-looked st at (suc k) (b ∷ u) e l₁ l₂ x q = met-looked st at k u e l₁ l₂ x q
+  met-looked st at zero (b ∷ u) e l₁ l₂ x q =
+      by-fault (eqb (fault (b ∷ u)) 0) refl l₁ q (λ st′ l₃ h. met-looked st′ (at + (4 + size (b ∷ u))) (3 + size (b ∷ u)) u onwards l₃ l₂ x h)
+    where
+      onwards : drop (3 + size (b ∷ u)) u ≡ drop (at + (4 + size (b ∷ u))) s
+      onwards =
+          let n : suc (3 + size (b ∷ u)) ≡ 4 + size (b ∷ u) = omega arith in
+          ap (λ (i : ℕ). drop i (b ∷ u)) n ∙ ap (drop (4 + size (b ∷ u))) e ∙ drop-drop (4 + size (b ∷ u)) at s
+
+      rest : Step → List Mark
+      rest y = elim y as (λ (y′ : Step). List Mark) [ stops o ↦ [] | goes st₁ ↦ shown R st₁ (at + (4 + size (b ∷ u))) (3 + size (b ∷ u)) u ]
+
+      by-step : (y : Step) (l₃ : List Mark) → rest y ≡ l₃ ++ (x ∷ l₂)
+          → ((st′ : List Sighting) (l₄ : List Mark) → shown R st′ (at + (4 + size (b ∷ u))) (3 + size (b ∷ u)) u ≡ l₄ ++ (x ∷ l₂) → Looked x) → Looked x
+      by-step (stops o) l₃ h ih = absurd (some-met l₃ l₂ x h)
+      by-step (goes st′) l₃ h ih = ih st′ l₃ h
+
+      by-first : (l₃ : List Mark) → fault (b ∷ u) ≡ 0 → markAt at (b ∷ u) ∷ rest (step R st at (b ∷ u)) ≡ l₃ ++ (x ∷ l₂)
+          → ((st′ : List Sighting) (l₄ : List Mark) → shown R st′ (at + (4 + size (b ∷ u))) (3 + size (b ∷ u)) u ≡ l₄ ++ (x ∷ l₂) → Looked x) → Looked x
+      by-first [] z h ih = subst (λ (y : Mark). Looked y) (first-met (markAt at (b ∷ u)) x (rest (step R st at (b ∷ u))) l₂ h) (looked-here at (b ∷ u) e z)
+      by-first (y ∷ l₃) z h ih = by-step (step R st at (b ∷ u)) l₃ (later-met (markAt at (b ∷ u)) y x (rest (step R st at (b ∷ u))) l₃ l₂ h) ih
+
+      by-fault : (t : Bool) → eqb (fault (b ∷ u)) 0 ≡ t → (l₃ : List Mark) → cond t (markAt at (b ∷ u) ∷ rest (step R st at (b ∷ u))) [] ≡ l₃ ++ (x ∷ l₂)
+          → ((st′ : List Sighting) (l₄ : List Mark) → shown R st′ (at + (4 + size (b ∷ u))) (3 + size (b ∷ u)) u ≡ l₄ ++ (x ∷ l₂) → Looked x) → Looked x
+      by-fault true z l₃ h ih = by-first l₃ (eqb-true (fault (b ∷ u)) 0 z) h ih
+      by-fault false z l₃ h ih = absurd (some-met l₃ l₂ x h)
+
+  pub meets-looked : (l₁ l₂ : List Mark) (x : Mark) → shown R [] 0 0 s ≡ l₁ ++ (x ∷ l₂) → lookAt s (x .place) ≡ whole (x .kind) (x .critical) (x .size)
+  meets-looked l₁ l₂ x q = met-looked [] 0 0 s refl l₁ l₂ x q

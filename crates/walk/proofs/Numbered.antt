@@ -6,11 +6,11 @@ use mathlib.Core.List.{List, [], _∷_}
 use mathlib.Core.Bool.{Bool, true, false, cond, not, _&&_, _||_, true≢false}
 use Prim.Native.Nat.{ℕ, zero, suc, _+_, _*_, _/_, _%_, _<_, _≤_}
 use native.Mathlib.Omega.{arith}
-use borrow.Author.Tests.{leb-true, ltb-true, ltb-false}
-use lib.ListN.{length, getD, take, drop, length-take, List·getD-eq-default}
-use lib.Seq.{getD-take, getD-drop}
+use borrow.Author.Tests.{leb-true}
+use lib.ListN.{length, getD, take, drop}
 use lib.Dec.{leb, ltb, eqb}
 use Rattle.wire.specs.Bytes.{numberAt}
+use Rattle.wire.proofs.Bytes.{Small, small-part, number-small}
 use Rattle.nts.specs.Refusal.{Beside, nothing, code, protocol, algorithm, Refused}
 use Rattle.layout.specs.declared.Shape.{Shape}
 use Rattle.layout.specs.declared.Shape.the-variants.{Skipped, Numbers, Number, Bytes, Name, Pairs, Halves, Unknown}
@@ -22,29 +22,13 @@ use Rattle.walk.specs.Table.{known, actBy}
 use Rattle.walk.specs.Rules as rule
 use Rattle.walk.specs.Rules.{tellAct, ruleAct, actAt, readerOf}
 
--- ---- bytes
-
-abbrev pub Small : List ℕ → Type 0
-Small s = (i : ℕ) → getD s i 0 < 256
+-- ---- a number beside a refusal
 
 abbrev pub Sixteen : Beside → Type 0
 Sixteen nothing = Unit {0}
 Sixteen (code c) = c < 65536
 Sixteen (protocol c) = c < 65536
 Sixteen (algorithm c) = c < 65536
-
-pub small-part : (s : List ℕ) (n at : ℕ) → Small s → Small (take n (drop at s))
-small-part s n at h i = go (ltb i n) refl
-  where
-    go : (t : Bool) → ltb i n ≡ t → getD (take n (drop at s)) i 0 < 256
-    go true e = rw (getD-take n (drop at s) i 0 (ltb-true i n e), getD-drop at s i 0) (h (at + i))
-    go false e =
-        let l : length (take n (drop at s)) ≤ i = omega (arith, length-take n (drop at s), ltb-false i n e) in
-        rw (List·getD-eq-default (take n (drop at s)) 0 {n = i} l) (omega arith)
-
-pub number-small : (s : List ℕ) → Small s → numberAt s 0 < 65536
-unfolding numberAt
-number-small s h = omega (arith, h 0, h (0 + 1))
 
 -- ---- a fault is at most 2
 

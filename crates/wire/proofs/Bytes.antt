@@ -2,12 +2,14 @@
 -- Assumes nothing.
 use mathlib.Core.Path.{_≡_, refl, sym, ap, _∙_}
 use mathlib.Core.List.{List, [], _∷_, _++_}
+use mathlib.Core.Bool.{Bool, true, false}
 use Prim.Native.Nat.{ℕ, _+_, _-_, _*_, _/_, _%_, _<_, _≤_}
 use native.Mathlib.Nat.{add-sub-cancel-left, div-add-mod'}
 use native.Mathlib.Omega.{arith}
-use borrow.Author.Tests.{le-leb, lt-leb}
+use borrow.Author.Tests.{le-leb, lt-leb, ltb-true, ltb-false}
 use denote.Ref.{RefT, now}
-use lib.ListN.{length, getD, take, drop, length-append, length-drop, List·getD-eq-default}
+use lib.Dec.{ltb}
+use lib.ListN.{length, getD, take, drop, length-append, length-take, length-drop, List·getD-eq-default}
 use lib.Seq.{getD-take, getD-drop, length-take-le, take-add, take-at, drop-at, drop-drop}
 use Rattle.wire.specs.Bytes.{numberAt, partAt, startAt, PartOf}
 use Rattle.wire.specs.Over.{bytesOf}
@@ -87,3 +89,21 @@ bytes-back (x ∷ y ∷ []) e h =
     let q : (x * 256 + y) % 256 ≡ y = omega arith in
     λ j. p j ∷ q j ∷ []
 bytes-back (x ∷ y ∷ z ∷ b) e h = absurd (let w : ⊥ = omega arith in w)
+
+-- ---- lists that are bytes
+
+abbrev pub Small : List ℕ → Type 0
+Small s = (i : ℕ) → getD s i 0 < 256
+
+pub small-part : (s : List ℕ) (n at : ℕ) → Small s → Small (take n (drop at s))
+small-part s n at h i = go (ltb i n) refl
+  where
+    go : (t : Bool) → ltb i n ≡ t → getD (take n (drop at s)) i 0 < 256
+    go true e = rw (getD-take n (drop at s) i 0 (ltb-true i n e), getD-drop at s i 0) (h (at + i))
+    go false e =
+        let l : length (take n (drop at s)) ≤ i = omega (arith, length-take n (drop at s), ltb-false i n e) in
+        rw (List·getD-eq-default (take n (drop at s)) 0 {n = i} l) (omega arith)
+
+pub number-small : (s : List ℕ) → Small s → numberAt s 0 < 65536
+unfolding numberAt
+number-small s h = omega (arith, h 0, h (0 + 1))

@@ -1,3 +1,4 @@
 pub mod Giving
 pub mod Same
 pub mod Kept
+pub mod Items

@@ -15,7 +15,8 @@ use Rattle.messages.specs.declared.Asked.{Asked}
 use Rattle.plan.specs.Tray.{deny, grownTray}
 use Rattle.cells.specs.Cells.{Gives, cell, counted}
 
--- ---- a record: kind, the bit of an unknown kind, a number, and two parts of the lent bytes, as the reader of one record gives them
+-- ---- a record: kind, a bit, a number, and two parts of the lent bytes, as the reader of one record gives them. The bit is 0 or 1; which of them counts for an
+-- unknown kind alone, since a known one is written with the table's
 
 pub data Held : Type 0 where
   noRecord : Held

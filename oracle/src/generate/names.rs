@@ -83,7 +83,7 @@ fn long(out: &mut impl Write, turn: &mut usize, body: &[u8]) -> io::Result<()> {
     Ok(())
 }
 
-/// The type word of a kind of name; the bit, which counts for nothing, goes by turns.
+/// The type word of a kind of name; the bit goes by turns.
 fn word(kind: usize, turn: usize) -> u16 {
     KINDS[kind % KINDS.len()] | if turn % 4 < 2 { CRITICAL } else { 0 }
 }

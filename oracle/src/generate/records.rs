@@ -212,25 +212,27 @@ fn length_before(random: &mut Random) -> usize {
     }
 }
 
-/// Bodies as large as they can be, whole, cut by a byte or two, and with bytes after them.
+/// Bodies as large as they can be, and of sizes whose top bit is just set and just clear: with both bits, whole, cut by a
+/// byte or two, and with bytes after them.
 fn large(random: &mut Random, out: &mut impl Write) -> io::Result<()> {
     let kinds = (0..=16).chain([0x7fff]);
     for kind in kinds {
-        for size in [LARGEST, LARGEST - 1, LARGEST - 2, LARGEST - 3] {
-            let body = large_body(random, kind, size);
-            let word = kind | if random.once_in(2) { CRITICAL } else { 0 };
-            let mut whole = record(word, size, &body);
-            put(out, b'r', &whole[..whole.len() - 1])?;
-            put(out, b'r', &whole[..whole.len() - 2])?;
-            put(out, b'r', &whole)?;
-            whole.extend_from_slice(&random.bytes(LONGEST - whole.len()));
-            put(out, b'r', &whole)?;
+        for word in [kind, kind | CRITICAL] {
+            for size in [LARGEST, LARGEST - 1, LARGEST - 2, LARGEST - 3, 0x8000, 0x7ffc] {
+                let body = large_body(random, kind, size);
+                let mut whole = record(word, size, &body);
+                put(out, b'r', &whole[..whole.len() - 1])?;
+                put(out, b'r', &whole[..whole.len() - 2])?;
+                put(out, b'r', &whole)?;
+                whole.extend_from_slice(&random.bytes(LONGEST - whole.len()));
+                put(out, b'r', &whole)?;
+            }
+            let body = large_body(random, kind, LARGEST - 3);
+            let before = random.below(400);
+            let message = [random.bytes(before), record(word, LARGEST - 3, &body)].concat();
+            put(out, b'R', &placed(before as u64, &message))?;
+            put(out, b'R', &placed(before as u64, &message[..message.len() - 1]))?;
         }
-        let body = large_body(random, kind, LARGEST - 3);
-        let before = random.below(400);
-        let message = [random.bytes(before), record(kind, LARGEST - 3, &body)].concat();
-        put(out, b'R', &placed(before as u64, &message))?;
-        put(out, b'R', &placed(before as u64, &message[..message.len() - 1]))?;
     }
     Ok(())
 }

@@ -20,6 +20,7 @@ pub fn reading(out: &mut impl Write) -> io::Result<()> {
     utf8(out)?;
     long_bodies(out)?;
     places(out)?;
+    bits(out)?;
     bad_cases(out)
 }
 
@@ -195,6 +196,31 @@ fn places(out: &mut impl Write) -> io::Result<()> {
         put(out, b'R', &placed(0, &hex(&format!("{record} 41 42"))))?;
     }
     Ok(())
+}
+
+/// The bit as received, beside other top bits: of the records before and after it, of its body, and of its size, with few
+/// bytes there and with all of them.
+fn bits(out: &mut impl Write) -> io::Result<()> {
+    let messages = [
+        "00 01 00 02 00 00 80 08 00 00 00 05 00 01 61 80 00 00 00",
+        "80 01 00 02 00 00 00 08 00 00 80 05 00 01 61 00 00 00 00",
+    ];
+    for message in messages {
+        for place in [0, 6, 10, 15] {
+            put(out, b'R', &placed(place, &hex(message)))?;
+        }
+    }
+    for kind in KINDS {
+        for word in [kind, kind | CRITICAL] {
+            put(out, b'r', &record(word, 2, &hex("C2 80")))?;
+            put(out, b'r', &record(word, 4, &hex("F4 8F BF BF 80")))?;
+            put(out, b'r', &record(word, 0x8000, &hex("00 0F")))?;
+            put(out, b'R', &placed(1, &hex(&format!("80 {word:04X} 00 00"))))?;
+            put(out, b'R', &placed(1, &hex(&format!("00 {word:04X} 00 00"))))?;
+        }
+    }
+    put(out, b'r', &record(0, 0x8000, &[0; 0x8000]))?;
+    put(out, b'r', &record(CRITICAL | 8, 0x8000, &[0; 0x8000]))
 }
 
 /// Cases that are none.

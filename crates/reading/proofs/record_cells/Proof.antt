@@ -47,7 +47,7 @@ returns-14 : tie.Need-returns-14
 returns-14 c = rw (c .before .before .item12 .given .1) (c .parted8 .ensures)
 
 returns-15 : tie.Need-returns-15
-returns-15 c = rw (c .before .before .before .item13 .given .1) (rw (c .before .flag-of .ensures) at (c .parted9 .ensures))
+returns-15 c = rw (c .before .before .item13 .given .1) (c .parted9 .ensures)
 
 pub record-cells-spec : {M : Type 1} → statement M
 record-cells-spec =
@@ -57,5 +57,5 @@ record-cells-spec =
     (λ c κs. search needs) (λ c. search needs) (λ c κs. search needs) (λ c. search needs) (λ c κs. search needs) (λ c. search needs)
     (λ c κs. search needs) (λ c. search needs) (λ c κs. search needs) (λ c. search needs) (λ c κs. search needs) (λ c. search needs)
     (λ c. search needs) (λ c κs. search needs) (λ c. search needs) (λ c κs. search needs) (λ c. search needs) (λ c. search needs)
-    (λ c κs. search needs) (λ c κs. search needs) returns returns-2 returns-3 returns-4 returns-5 returns-6 returns-7 returns-8
+    (λ c κs. search needs) returns returns-2 returns-3 returns-4 returns-5 returns-6 returns-7 returns-8
     returns-9 returns-10 returns-11 returns-12 returns-13 returns-14 returns-15)

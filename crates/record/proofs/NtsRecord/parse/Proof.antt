@@ -56,14 +56,14 @@ enum-told c = search needs
 add-start : tie.Need-add-start
 add-start c = search needs
 
+add-end : tie.Need-add-end
+add-end c = search needs
+
 is-critical-requires : tie.Need-is-critical-requires
 is-critical-requires c κs = search needs
 
 record-of-requires : tie.Need-record-of-requires
 record-of-requires c κs = search needs
-
-add-t21 : tie.Need-add-t21
-add-t21 c = search needs
 
 enum-told-2 : tie.Need-enum-told-2
 enum-told-2 c = search needs
@@ -106,9 +106,9 @@ parse-spec =
     fault-of-requires
     enum-told
     add-start
+    add-end
     is-critical-requires
     record-of-requires
-    add-t21
     enum-told-2
     refused-requires-3
     enum-told-3

@@ -1,86 +1,38 @@
--- `record::write::bit_of` meets its contract: each arm knows the kind, and the table computes at it.
+-- `record::write::bit_of` meets its contract: the bit that the table names, and where that is the one given, false.
 -- Assumes nothing.
-use mathlib.Core.Path.{sym}
-use Rattle.layout.specs.Table.{rowOf, bitOf}
-use Rattle.layout.proofs.Table.{unnamed, unknown-bit}
+use mathlib.Core.Path.{_≡_, sym, ap, _∙_}
+use mathlib.Core.Bool.{false}
+use Rattle.layout.specs.Table.{bitBy, bitOf}
+use Rattle.layout.specs.declared.Bit.{Bit}
+use borrow.Author.Needs.{needs}
 use Rattle.record.proofs.write.bit_of.Statement.{statement}
 use Rattle.record.proofs.write.bit_of.Tie as tie
 
+bit-named-requires : tie.Need-bit-named-requires
+bit-named-requires c κs = search needs
+
+enum-told : tie.Need-enum-told
+enum-told c = search needs
+
+enum-told-2 : tie.Need-enum-told-2
+enum-told-2 c = search needs
+
+enum-told-3 : tie.Need-enum-told-3
+enum-told-3 c = search needs
+
 returns : tie.Need-returns
-unfolding bitOf rowOf
-returns c = rw (c .match .keys1)
+unfolding bitOf
+returns c = ap (λ (b : Bit). bitBy b false) (sym (c .enum-told .given .1) ∙ c .before .before .bit-named .ensures)
 
 returns-2 : tie.Need-returns-2
-unfolding bitOf rowOf
-returns-2 c = rw (c .match .keys2)
+unfolding bitOf
+returns-2 c = ap (λ (b : Bit). bitBy b false) (sym (c .enum-told2 .given .1) ∙ c .before .before .bit-named .ensures)
 
 returns-3 : tie.Need-returns-3
-unfolding bitOf rowOf
-returns-3 c = rw (c .match .keys3)
-
-returns-4 : tie.Need-returns-4
-unfolding bitOf rowOf
-returns-4 c = rw (c .match .keys4)
-
-returns-5 : tie.Need-returns-5
-unfolding bitOf rowOf
-returns-5 c = rw (c .match .keys5)
-
-returns-6 : tie.Need-returns-6
-unfolding bitOf rowOf
-returns-6 c = rw (c .match .keys6)
-
-returns-7 : tie.Need-returns-7
-unfolding bitOf rowOf
-returns-7 c = rw (c .match .keys7)
-
-returns-8 : tie.Need-returns-8
-unfolding bitOf rowOf
-returns-8 c = rw (c .match .keys8)
-
-returns-9 : tie.Need-returns-9
-unfolding bitOf rowOf
-returns-9 c = rw (c .match .keys9)
-
-returns-10 : tie.Need-returns-10
-unfolding bitOf rowOf
-returns-10 c = rw (c .match .keys10)
-
-returns-11 : tie.Need-returns-11
-unfolding bitOf rowOf
-returns-11 c = rw (c .match .keys11)
-
-returns-12 : tie.Need-returns-12
-unfolding bitOf rowOf
-returns-12 c = rw (c .match .keys12)
-
-returns-13 : tie.Need-returns-13
-unfolding bitOf rowOf
-returns-13 c = rw (c .match .keys13)
-
-returns-14 : tie.Need-returns-14
-unfolding bitOf rowOf
-returns-14 c = rw (c .match .keys14)
-
-returns-15 : tie.Need-returns-15
-returns-15 c = sym (unknown-bit _ _ (unnamed _ (c .match .rest)))
+unfolding bitOf
+returns-3 c = ap (λ (b : Bit). bitBy b false) (sym (c .enum-told3 .given .1) ∙ c .before .before .bit-named .ensures)
 
 pub bit-of-spec : {M : Type 1} → statement M
 bit-of-spec =
     tie.close
-    (tie.spec
-    returns
-    returns-2
-    returns-3
-    returns-4
-    returns-5
-    returns-6
-    returns-7
-    returns-8
-    returns-9
-    returns-10
-    returns-11
-    returns-12
-    returns-13
-    returns-14
-    returns-15)
+    (tie.spec bit-named-requires enum-told enum-told-2 enum-told-3 returns returns-2 returns-3)
