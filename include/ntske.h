@@ -42,7 +42,8 @@
  * A host that takes a message off a line need not know when it is whole: it hands over what comes,
  * as it comes (see "reading in pieces"). One that logs which records a request held, also where it
  * is refused, reads it in two calls (see "reading and deciding"). One that shows where a sender
- * forgot a critical bit, or added one, reads record by record (see ntske_bit_named).
+ * forgot a critical bit, or added one, reads record by record (see ntske_bit_named). One that may
+ * take only what RFC 8915 allows reads in the strict profile (see ntske_read_request_strict).
  *
  * README.md has server and client as programs, and examples/host.c is a whole host.
  *
@@ -53,9 +54,10 @@
  *     bits  8 to 15   what was not offered, of 17 alone: 1 a protocol,         ntske_beside_sort
  *                     2 an algorithm; otherwise 0
  *     bits 16 to 31   the number beside it: 5, 11, 12 and 17 have one          ntske_beside
- *     bits 32 to 63   its place: those of ntske_read_request,                  ntske_place
- *                     ntske_read_reply and ntske_decide_request and of the
- *                     calls that feed or close have one
+ *     bits 32 to 63   its place: those of ntske_read_request and               ntske_place
+ *                     ntske_read_reply, strict or not, of
+ *                     ntske_decide_request and of the calls that feed or
+ *                     close have one
  *
  * A call that is refused changes nothing that was lent to it: no struct, no count, no table, no
  * tray, no output; of a read in pieces alone the buffer and the connection may change.
@@ -86,8 +88,8 @@ extern "C" {
 
 /* ---- numbers --------------------------------------------------------------------------------- */
 
-/* This header's version, 0.4.0, a byte for each number. ntske_version tells the archive's. */
-#define NTSKE_VERSION 0x000400
+/* This header's version, 0.5.0, a byte for each number. ntske_version tells the archive's. */
+#define NTSKE_VERSION 0x000500
 
 /* TLS (RFC 8915, section 4): the application protocol's name (ALPN), and the port. */
 #define NTSKE_ALPN "ntske/1"
@@ -135,7 +137,8 @@ enum ntske_refusals {
     NTSKE_NO_OVERLAPPING_ALGORITHM = 14,
     NTSKE_NO_COOKIE = 15,
     NTSKE_BUFFER_FULL = 16,
-    NTSKE_NOT_OFFERED = 17
+    NTSKE_NOT_OFFERED = 17,
+    NTSKE_NOT_ALLOWED = 18
 };
 
 /* What the number beside a refusal is: see ntske_beside_sort. */
@@ -192,6 +195,9 @@ enum ntske_found_indices {
     NTSKE_FOUND_NTP_SERVER_DENY = 13,
     NTSKE_FOUND_AUTHENTICATION = 14
 };
+
+/* How a message is read: as document 01 has it, or as RFC 8915 alone allows. */
+enum ntske_profiles { NTSKE_USUAL = 0, NTSKE_STRICT = 1 };
 
 /* Sorts of requests. */
 enum ntske_sorts { NTSKE_KEY_EXCHANGE = 1, NTSKE_FIXED_KEY = 2, NTSKE_SUPPORT = 3 };
@@ -340,14 +346,15 @@ struct ntske_plan {
 };
 
 /*
- * A read in pieces, one for each line; made by ntske_connection_new. It is the host's to keep and
- * to copy, and only the library changes it: it is lent to the next call as the last one left it.
- * Of 17, `number` is 273 where a protocol and 529 where an algorithm was not offered.
- * One that is made or changed by hand is judged: 9 where `limit` or `met` is above 65,535, `state`
- * above 2, `number` (of state 2) none of 1 to 16, 273 and 529, `beside` above 65,535 or not 0 where
- * that number has none, `place` above 4,294,967,295, or one of these three not 0 in another state.
- * Any other numbers have a determined answer. In state 1 that is what the bytes gathered say to one
- * who offered what they name: the lists that are lent then are not asked.
+ * A read in pieces, one for each line; made by ntske_connection_new or, to be read in the strict
+ * profile, by ntske_connection_new_strict. It is the host's to keep and to copy, and only the
+ * library changes it: it is lent to the next call as the last one left it. Of 17, `number` is 273
+ * where a protocol and 529 where an algorithm was not offered. One that is made or changed by hand
+ * is judged: 9 where `limit` or `met` is above 65,535, `state` above 2, `number` (of state 2) none
+ * of 1 to 16, 18, 273 and 529, `beside` above 65,535 or not 0 where that number has none, `place`
+ * above 4,294,967,295, one of these three not 0 in another state, or `profile` above 1. Any other
+ * numbers have a determined answer. In state 1 that is what the bytes gathered say to one who
+ * offered what they name: the lists that are lent then are not asked.
  */
 struct ntske_connection {
     size_t limit;                     /* after how many bytes the message is cut */
@@ -358,6 +365,7 @@ struct ntske_connection {
     size_t number;                    /* of a refusal, bits 0 to 15 of its word; otherwise 0 */
     size_t beside;                    /* of a refusal; otherwise 0 */
     size_t place;                     /* likewise */
+    size_t profile;                   /* NTSKE_USUAL or NTSKE_STRICT */
 };
 
 #define NTSKE_CELL(type, field, i) \
@@ -415,7 +423,7 @@ NTSKE_CELL(ntske_plan, has_name, 4);
 NTSKE_CELL(ntske_plan, name_len, 5);
 NTSKE_CELL(ntske_plan, keep_alive, 6);
 NTSKE_CELL(ntske_plan, used, 7);
-NTSKE_CELLS(ntske_connection, 8);
+NTSKE_CELLS(ntske_connection, 9);
 NTSKE_CELL(ntske_connection, limit, 0);
 NTSKE_CELL(ntske_connection, gathered, 1);
 NTSKE_CELL(ntske_connection, begins, 2);
@@ -424,6 +432,7 @@ NTSKE_CELL(ntske_connection, state, 4);
 NTSKE_CELL(ntske_connection, number, 5);
 NTSKE_CELL(ntske_connection, beside, 6);
 NTSKE_CELL(ntske_connection, place, 7);
+NTSKE_CELL(ntske_connection, profile, 8);
 #define NTSKE_CELL16(type, field, i) \
     NTSKE_ASSERT(offsetof(struct type, field) == (i) * sizeof(uint16_t), #type ", " #field)
 #define NTSKE_CELLS16(type, n) NTSKE_ASSERT(sizeof(struct type) == (n) * sizeof(uint16_t), #type)
@@ -482,7 +491,8 @@ static inline unsigned ntske_beside(uint64_t answer) { return (unsigned)(answer 
 /*
  * Of a refusal of a request's or a reply's reader, whole, in two calls or in pieces, the place of
  * the first byte of the record concerned, which is the end record where it is decided after the
- * end; of 16 the place of the byte that has no room. Otherwise 0.
+ * end; of 16 the place of the byte that has no room, and of 18 for a byte after the end record that
+ * byte's. Otherwise 0.
  */
 static inline unsigned long ntske_place(uint64_t answer) { return (unsigned long)(answer >> 32); }
 
@@ -511,6 +521,7 @@ static inline const char *ntske_words(uint64_t answer)
         "no cookie",
         "the buffer has no room for a byte that the read needs",
         "the reply names what was not offered",
+        "the strict profile does not allow the record, or the byte after the end",
     };
     static const char *const not_offered[] = {
         "the reply's protocol was not offered",
@@ -526,9 +537,9 @@ static inline const char *ntske_words(uint64_t answer)
 
 /*
  * The code of the error record with which a server answers a request that was refused so: 0 for 3;
- * 1 for what is the client's fault (1, 2, 4, 5, 6); 2 for what is the server's own (7 and 16, since
- * its table or its buffer is too small, and any other number, 0 too). The replies to 13 and 14 are
- * no errors: they are those of ntske_write_no_protocol and ntske_write_no_algorithm.
+ * 1 for what is the client's fault (1, 2, 4, 5, 6, 18); 2 for what is the server's own (7 and 16,
+ * since its table or its buffer is too small, and any other number, 0 too). The replies to 13 and
+ * 14 are no errors: they are those of ntske_write_no_protocol and ntske_write_no_algorithm.
  */
 static inline uint16_t ntske_error_code(uint64_t answer)
 {
@@ -540,6 +551,7 @@ static inline uint16_t ntske_error_code(uint64_t answer)
     case NTSKE_INVALID:
     case NTSKE_AEAD_NOT_SUPPORTED:
     case NTSKE_INCORRECT_SIZED_KEY:
+    case NTSKE_NOT_ALLOWED:
         return NTSKE_CODE_BAD_REQUEST;
     default:
         return NTSKE_CODE_INTERNAL_SERVER_ERROR;
@@ -597,6 +609,24 @@ uint64_t ntske_read_reply(const uint8_t *message, size_t message_len, uint16_t l
                           size_t table_len, struct ntske_reply *answer);
 
 /*
+ * A request and a reply in the strict profile, which takes only what RFC 8915 allows. Kinds 8 to 14
+ * are unknown in it: passed over with their bit clear, 3 with it set, whatever their body holds. So
+ * a request is a key exchange without denied names, its table stays as it is, and a reply tells no
+ * keep-alive. 18, at a place, is for a record of kind 0, 1, 2 or 3 without its critical bit, an end
+ * record with a body, and a server name with a byte above 7F, after 1 and 2 of that record and
+ * before what it means (3, 4, 11, 12); and for a byte that follows the end record inside the limit,
+ * at that byte's place, before all that is decided after the end. All else is as above. Refusals:
+ * of a request 1 to 4 and 18; of a reply 18 and those of ntske_read_reply.
+ */
+uint64_t ntske_read_request_strict(const uint8_t *message, size_t message_len, uint16_t limit,
+                                   uint16_t *table, size_t table_len,
+                                   struct ntske_request *answer);
+uint64_t ntske_read_reply_strict(const uint8_t *message, size_t message_len, uint16_t limit,
+                                 const uint16_t *protocols, size_t protocols_len,
+                                 const uint16_t *algorithms, size_t algorithms_len,
+                                 uint16_t *table, size_t table_len, struct ntske_reply *answer);
+
+/*
  * The record at a place of a message, which has no limit but its length. Its critical bit is told
  * as it was received, of every kind. Refusals: 1 and 2, at the place that was asked for, which the
  * word does not tell.
@@ -608,7 +638,8 @@ uint64_t ntske_read_record(const uint8_t *message, size_t message_len, size_t pl
  * The critical bit that document 01 names for a kind, which is the one that ntske_write_record
  * writes: NTSKE_BIT_SET for 0 to 4, 6, 7, 9, 10 and 12; NTSKE_BIT_CLEAR for 5, 8, 13 and 14; and
  * NTSKE_BIT_GIVEN for every other number, since an unknown kind has none of its own. Refuses
- * nothing. On reading, the bit of a known kind does not count. Where a sender forgot or added it:
+ * nothing. On reading, the bit of a known kind does not count, but for kinds 0 to 3 in the strict
+ * profile. Where a sender forgot or added it:
  *
  *     struct ntske_record_read read;
  *     size_t place = 0;
@@ -718,14 +749,25 @@ uint64_t ntske_decide_request(const struct ntske_finding *finding, const uint8_t
  * long as the limit there is none. 9, first of all and changing nothing: the cells are no
  * connection, or one that counts more bytes than the buffer has or the limit allows. That a line
  * which began as a request's is not fed on as a reply's is the host's affair.
+ *
+ * A connection that was made by ntske_connection_new_strict is read in the strict profile by the
+ * same calls, and the answer is that of ntske_read_request_strict or ntske_read_reply_strict. Since
+ * no byte may follow its end record, such a read waits once more when that stands whole and nothing
+ * was refused: it answers at the close, at once where the end record ends at the limit, or when a
+ * byte inside the limit follows, with 18. That byte is not stored, and is never 16.
  */
 
-/* A read of a message that is cut after `limit` bytes. Refuses nothing. */
+/*
+ * A read of a message that is cut after `limit` bytes, in the usual profile and in the strict one.
+ * Refuse nothing.
+ */
 uint64_t ntske_connection_new(uint16_t limit, struct ntske_connection *connection);
+uint64_t ntske_connection_new_strict(uint16_t limit, struct ntske_connection *connection);
 
 /*
  * A piece of a request, and the close of its line, after which the read waits no more. Refusals: 9
- * (its place is 0), 1 to 7 and 16, at a place; and the one that the connection holds.
+ * (its place is 0), 1 to 7, 16 and, in the strict profile, 18, at a place; and the one that the
+ * connection holds.
  */
 uint64_t ntske_feed_request(struct ntske_connection *connection, const uint8_t *piece,
                             size_t piece_len, uint8_t *buffer, size_t buffer_len, uint16_t *table,
@@ -736,7 +778,7 @@ uint64_t ntske_close_request(struct ntske_connection *connection, uint8_t *buffe
 
 /*
  * The same of a reply, with what the client offered. Refusals: 9 (its place is 0), 1 to 4, 7, 11 to
- * 17, at a place; and the one that the connection holds.
+ * 17 and, in the strict profile, 18, at a place; and the one that the connection holds.
  */
 uint64_t ntske_feed_reply(struct ntske_connection *connection, const uint8_t *piece,
                           size_t piece_len, const uint16_t *protocols, size_t protocols_len,

@@ -15,7 +15,7 @@ pub fn print() {
         let each = time / (names + 3) as f64;
         println!("growth request names {names} bytes {} ns {time:.0} a record {each:.1}", message.len());
     }
-    let (mut line, mut buffer) = ([0; 8], vec![0; inputs::request(inputs::MOST_NAMES).len()]);
+    let (mut line, mut buffer) = ([0; 9], vec![0; inputs::request(inputs::MOST_NAMES).len()]);
     for names in [0, 1, 10, 150, 500, 1000, 2000] {
         let message = inputs::request(names);
         let time = clock::least(|| {

@@ -105,7 +105,7 @@ fn pieces() {
     let (short, long) = (inputs::request(150), inputs::request(2000));
     let (mut table, mut other) = (vec![0; 2 * inputs::MOST_NAMES], vec![0; 2 * inputs::MOST_NAMES]);
     let (mut answers, mut others) = (ours::Answers::default(), ours::Answers::default());
-    let (mut line, mut buffer) = ([0; 8], vec![0; long.len()]);
+    let (mut line, mut buffer) = ([0; 9], vec![0; long.len()]);
     for (name, message, piece, bar) in [("pieces1", &short, 1, "none"), ("pieces1400", &long, 1400, "0.5")] {
         for cut in inputs::cuts(message) {
             clock::same(name, ours::in_pieces(cut, piece, table.clone()), ours::whole(cut, table.clone()));
@@ -122,7 +122,7 @@ fn pieces() {
             },
         );
     }
-    let (mut line2, mut buffer2) = ([0; 8], vec![0; short.len()]);
+    let (mut line2, mut buffer2) = ([0; 9], vec![0; short.len()]);
     clock::row_bytes(
         "bytewise",
         1.5,

@@ -99,7 +99,7 @@ pub fn in_two(message: &[u8], mut table: Vec<u16>) -> (u64, RequestCells, Vec<u1
 /// What comes of it in pieces, and then the close of the line where the read still waits. The buffer begins with what was
 /// gathered.
 pub fn in_pieces(message: &[u8], piece: usize, mut table: Vec<u16>) -> (u64, RequestCells, Vec<u16>) {
-    let (mut answers, mut buffer, mut line) = (Answers::default(), vec![0; message.len() + 1], [0; 8]);
+    let (mut answers, mut buffer, mut line) = (Answers::default(), vec![0; message.len() + 1], [0; 9]);
     let mut word = raw::WAITING;
     if !message.is_empty() {
         word = feed_request(message, piece, &mut line, &mut buffer, &mut table, &mut answers);

@@ -15,6 +15,7 @@ mod records;
 mod replies;
 mod requests;
 mod sends;
+mod strict;
 mod tokens;
 mod trays;
 mod words;
@@ -46,6 +47,7 @@ pub fn corpus(name: &str, seed: u64, count: Option<u64>, out: &mut impl Write) -
         "sample-choosing" => samples::choosing(out)?,
         "sample-pieces" => samples::pieces(out)?,
         "sample-findings" => samples::findings(out)?,
+        "sample-strict" => samples::strict(out)?,
         "words" => words::every(seed, out)?,
         "names" => names::boundaries(out)?,
         "names3" => names::of_three(out)?,
@@ -65,6 +67,8 @@ pub fn corpus(name: &str, seed: u64, count: Option<u64>, out: &mut impl Write) -
         "pieces-tokens" => pieces::pieces_of_tokens(&[REQUESTS, REPLIES], seed, out)?,
         "findings" => findings::findings(seed, count.unwrap_or(150_000), out)?,
         "findings-tokens" => findings::findings_of_tokens(seed, out)?,
+        "strict" => strict::strict(seed, count.unwrap_or(100_000), out)?,
+        "strict-tokens" => strict::strict_tokens(seed, out)?,
         "choosing" => choosing::choosing(seed, count.unwrap_or(400_000), out)?,
         "writes" => writes::writes(seed, count.unwrap_or(200_000), out)?,
         _ => return Err(io::Error::other(format!("no corpus is named {name}"))),

@@ -9,6 +9,7 @@ mod packet;
 mod payload;
 mod random;
 mod samples;
+mod strict;
 mod tls_utils;
 
 /// The stand-in for the crate's module `nts`. What looks into the crate's values is a child of it.

@@ -14,9 +14,10 @@ use crate::nts::reading;
 use crate::nts::replies::{self, AUTHENTICATION, Compared, EMPTY_LIST, MANY_COOKIES, NO_COOKIE, NOT_OFFERED};
 use crate::nts::sending;
 use crate::nts::trays::{self, BEYOND, CUT, MANY_FIELDS, OTHER_TAG};
+use crate::strict;
 
 /// The outcomes that can occur, by what the ops do.
-pub const FAMILIES: [(&str, &[&[&str]]); 38] = [
+pub const FAMILIES: [(&str, &[&[&str]]); 42] = [
     ("read", &[&READ, &["refused 1", "refused 2"]]),
     ("read c where the top bit is", &[&OTHER_BITS]),
     ("read - where the top bit is", &[&OTHER_BITS]),
@@ -40,6 +41,10 @@ pub const FAMILIES: [(&str, &[&[&str]]); 38] = [
     ("decided request", &[&REQUESTS, &[UNDER_THE_CRATES_LIMIT]]),
     ("decided request by a finding let in with", &[&LET_IN]),
     ("decided request refused 9 for", &[&NUMBERS, &OF_OTHER_BYTES]),
+    ("strict request", &[&strict::REQUESTS, &strict::EITHER]),
+    ("strict reply", &[&strict::REPLIES, &strict::EITHER]),
+    ("strict fed request", &[&strict::REQUESTS, &strict::EITHER, &strict::FED]),
+    ("strict fed reply", &[&strict::REPLIES, &strict::EITHER, &strict::FED]),
     ("choice", &[&["chosen", "refused 13", "refused 14"], &CHOSEN_BY]),
     ("choice refused 9 for", &[&[ODD_PROTOCOLS, ODD_ALGORITHMS]]),
     ("choice by the copy, for", &[&[NOT_THE_SERVERS, NOT_THE_CRATES]]),
@@ -205,6 +210,7 @@ pub fn count(counts: &mut BTreeMap<String, u64>, op: u8, payload: &[u8], line: &
         b'f' | b'F' => return count_fed(counts, op, payload, line),
         b'v' => return count_finding(counts, line),
         b'V' => return count_decided(counts, payload, line),
+        b's' | b'S' | b't' | b'T' => return count_strict(counts, op, payload, line),
         _ => {}
     }
     let outcome = outcome(op, payload, line);
@@ -320,6 +326,21 @@ fn count_decided(counts: &mut BTreeMap<String, u64>, payload: &[u8], line: &[u8]
             }
         }
         Err(fault) => add(format!("decided request {answer} for {fault}")),
+    }
+}
+
+/// Adds a case of the strict profile to the counts of its outcomes.
+fn count_strict(counts: &mut BTreeMap<String, u64>, op: u8, payload: &[u8], line: &[u8]) {
+    let mut add = |outcome| *counts.entry(outcome).or_default() += 1;
+    let line = String::from_utf8_lossy(line);
+    match strict::counted(op, payload) {
+        _ if line.starts_with(DISAGREES) => add(DISAGREES.to_owned()),
+        None => add(line.into_owned()),
+        Some(outcomes) => {
+            for outcome in outcomes {
+                add(format!("{} {outcome}", strict::family(op)));
+            }
+        }
     }
 }
 

@@ -7,6 +7,7 @@ mod pieces;
 mod reading;
 mod replies;
 mod requests;
+mod strict;
 mod writing;
 
 pub use choosing::choosing;
@@ -15,6 +16,7 @@ pub use pieces::pieces;
 pub use reading::reading;
 pub use replies::replies;
 pub use requests::requests;
+pub use strict::strict;
 pub use writing::writing;
 
 /// Bytes from hexadecimal digits; blanks count for nothing.

@@ -15,7 +15,7 @@
 #include <unistd.h>
 
 static unsigned long checks, failed;
-enum { REFUSALS = 18 };
+enum { REFUSALS = 19 };
 static unsigned seen[REFUSALS + 1]; /* by refusal, and of 17 where an algorithm was not offered behind them */
 
 static void check(int holds, const char *what, const char *of, size_t more)
@@ -216,7 +216,7 @@ static void after(const char *what, uint64_t got, uint64_t want)
 {
     check(got == want, what, "returned", (size_t)got);
     if (want != NTSKE_OK && ntske_refusal(want) < REFUSALS)
-        seen[ntske_refusal(want) + ((want & 0xFFFF) == ALGORITHM_17)]++;
+        seen[(want & 0xFFFF) == ALGORITHM_17 ? REFUSALS : ntske_refusal(want)]++;
     for (int i = 0; i < lents; i++) {
         struct lent *x = &lent[i];
         check(memcmp(x->at, x->want, x->size) == 0, what, "lent memory differs", (size_t)i);
@@ -284,19 +284,25 @@ static void walk(const char *what, struct bytes m, uint16_t limit, struct ntske_
     }
 }
 
-/* What is read, and under which limit and with how many cells of a table; the answer is looked at where it is accepted. The walk and the decision from what it
-   finds answer the same. */
-static void request(const char *what, struct bytes m, uint16_t limit, size_t cells, uint64_t want, struct ntske_request answer, struct words table)
+/* What is read in a profile, and under which limit and with how many cells of a table; the answer is looked at where it is accepted. */
+static void request_in(enum ntske_profiles profile, const char *what, struct bytes m, uint16_t limit, size_t cells, uint64_t want, struct ntske_request answer,
+                       struct words table)
 {
     uint8_t *lent_m = lend(m.p, m.n);
     uint16_t *t = lend(NULL, cells * sizeof(uint16_t));
     struct ntske_request *a = lend(NULL, sizeof *a);
-    uint64_t got = ntske_read_request(lent_m, m.n, limit, t, cells, a);
+    uint64_t got = profile == NTSKE_STRICT ? ntske_read_request_strict(lent_m, m.n, limit, t, cells, a) : ntske_read_request(lent_m, m.n, limit, t, cells, a);
     if (want == NTSKE_OK) {
         becomes(a, 0, &answer, sizeof answer);
         becomes(t, 0, table.p, table.n * sizeof(uint16_t));
     }
     after(what, got, want);
+}
+
+/* In the usual profile the walk and the decision from what it finds answer the same. */
+static void request(const char *what, struct bytes m, uint16_t limit, size_t cells, uint64_t want, struct ntske_request answer, struct words table)
+{
+    request_in(NTSKE_USUAL, what, m, limit, cells, want, answer, table);
     decide(what, walked(what, m, limit), m, cells, want, answer, table);
 }
 
@@ -306,19 +312,27 @@ static void request_refused(const char *what, struct bytes m, uint16_t limit, si
 }
 
 /* The same of a reply, to a client that offered this. */
-static void reply_to(const char *what, struct offered offered, struct bytes m, uint16_t limit, size_t cells, uint64_t want, struct ntske_reply answer,
-                     struct words table)
+static void reply_in(enum ntske_profiles profile, const char *what, struct offered offered, struct bytes m, uint16_t limit, size_t cells, uint64_t want,
+                     struct ntske_reply answer, struct words table)
 {
     uint8_t *lent_m = lend(m.p, m.n);
     uint16_t *p = lend(offered.protocols.p, 2 * offered.protocols.n), *q = lend(offered.algorithms.p, 2 * offered.algorithms.n);
     uint16_t *t = lend(NULL, cells * sizeof(uint16_t));
     struct ntske_reply *a = lend(NULL, sizeof *a);
-    uint64_t got = ntske_read_reply(lent_m, m.n, limit, p, offered.protocols.n, q, offered.algorithms.n, t, cells, a);
+    uint64_t got = profile == NTSKE_STRICT
+                       ? ntske_read_reply_strict(lent_m, m.n, limit, p, offered.protocols.n, q, offered.algorithms.n, t, cells, a)
+                       : ntske_read_reply(lent_m, m.n, limit, p, offered.protocols.n, q, offered.algorithms.n, t, cells, a);
     if (want == NTSKE_OK) {
         becomes(a, 0, &answer, sizeof answer);
         becomes(t, 0, table.p, table.n * sizeof(uint16_t));
     }
     after(what, got, want);
+}
+
+static void reply_to(const char *what, struct offered offered, struct bytes m, uint16_t limit, size_t cells, uint64_t want, struct ntske_reply answer,
+                     struct words table)
+{
+    reply_in(NTSKE_USUAL, what, offered, m, limit, cells, want, answer, table);
 }
 
 static void reply_to_refused(const char *what, struct offered offered, struct bytes m, size_t cells, uint64_t want)
@@ -412,6 +426,10 @@ static struct came limited(size_t limit) { return (struct came){limit, limit, NE
 static struct came full(size_t room) { return (struct came){room + 1, room, NEVER}; }
 static struct came closed(size_t n) { return (struct came){NEVER, n, NEVER}; }
 
+/* In the strict profile, behind the end record: the close decides, or a byte that follows. */
+static struct came ended(size_t place, size_t end) { return (struct came){NEVER, end, place}; }
+static struct came followed(size_t place, size_t end) { return (struct came){end + 1, end, place}; }
+
 /* A message that is handed over, and what is to come of it. */
 struct line {
     const char *what;
@@ -424,6 +442,7 @@ struct line {
     struct ntske_request request;
     struct ntske_reply reply;
     struct words table;
+    enum ntske_profiles profile;
 };
 
 /* What a host keeps of it between two calls. */
@@ -437,13 +456,14 @@ struct kept {
 /* The connection after so many bytes are gathered: the record that stands last begins behind those that are whole and do not decide. */
 static struct ntske_connection gathered(const struct line *x, size_t n, uint64_t want)
 {
-    struct ntske_connection c = CONNECTION(.limit = x->under.limit, .gathered = n);
+    struct ntske_connection c = CONNECTION(.limit = x->under.limit, .gathered = n, .profile = x->profile);
     const uint8_t *p = x->all.p;
+    size_t known = x->profile == NTSKE_STRICT ? 8 : 15;
     while (c.begins != x->came.decides && n - c.begins >= 4) {
         size_t kind = (p[c.begins] & 0x7FU) << 8 | p[c.begins + 1], end = c.begins + 4 + (p[c.begins + 2] << 8 | p[c.begins + 3]);
         if (end > n)
             break;
-        c.met |= (size_t)1 << (kind < 15 ? kind : 11);
+        c.met |= (size_t)1 << (kind < known ? kind : 11);
         c.begins = end;
     }
     if (want == NTSKE_OK)
@@ -501,7 +521,7 @@ static void hand(const struct line *x, struct kept *k, const struct bytes *piece
    answer, whatever they are lent. */
 static void in_pieces(const struct line *x, size_t cut, size_t step, int empty)
 {
-    struct kept k = {.connection = CONNECTION(.limit = x->under.limit)};
+    struct kept k = {.connection = CONNECTION(.limit = x->under.limit, .profile = x->profile)};
     struct bytes none = NO_BYTES, more = H("FFFF00");
     for (size_t i = 0; i < ROOM; i++)
         k.buffer[i] = (uint8_t)(0x3C + i);
@@ -559,6 +579,17 @@ static void feeds_reply(const char *what, struct bytes m, struct under under, st
 static void feeds_reply_refused(const char *what, struct bytes m, struct under under, struct came came, uint64_t want)
 {
     feeds_reply_to_refused(what, usually, m, under, came, want);
+}
+
+/* The same in the strict profile: an accepted request leaves the table as it is. */
+static void feeds_strictly(const char *what, struct bytes m, struct under under, struct came came, uint64_t want, struct ntske_request answer)
+{
+    fed(&(struct line){what, m, under, came, want, .request = answer, .profile = NTSKE_STRICT});
+}
+
+static void feeds_reply_strictly(const char *what, struct bytes m, struct under under, struct came came, uint64_t want, struct ntske_reply answer, struct words table)
+{
+    fed(&(struct line){what, m, under, came, want, .is_reply = 1, .offered = usually, .reply = answer, .table = table, .profile = NTSKE_STRICT});
 }
 
 /* ---- choosing ---- */
@@ -1122,6 +1153,93 @@ static void feeding(void)
     feeds_reply_refused("no cookie", m, usual, whole(12, 16), at(15, 12));
 }
 
+/* The strict profile, whole and in pieces. */
+static void strictly(void)
+{
+    struct bytes m = H("8001 0002 0000 8004 0002 000F 8000 0000"), name = H("8006 0003 612E62"), foreign = H("8006 0002 C3A9");
+    struct ntske_request read = key_exchange(PART(4, 2), PART(10, 2), 0), none = support(PART(0, 0), 0, 0, 0);
+    const struct { const char *what; struct bytes m; uint16_t limit; uint64_t want; size_t by; } requests[] = {
+        {"the request of document 01", m, NTSKE_LIMIT, NTSKE_OK, 0},
+        {"protocols without the bit", join(H("0001 0002 0000"), (struct bytes){10, m.p + 6}), NTSKE_LIMIT, at(18, 0), 0},
+        {"algorithms without the bit", H("8001 0002 0000 0004 0002 000F 8000 0000"), NTSKE_LIMIT, NTSKE_OK, 0},
+        {"a byte behind the end", join(m, H("00")), NTSKE_LIMIT, at(18, 16), 0},
+        {"a byte behind the end and the limit", join(m, H("00")), 16, NTSKE_OK, 0},
+        {"cut by the limit", m, 15, at(1, 12), 0},
+        {"an end with a body", join((struct bytes){12, m.p}, H("8000 0001 00")), NTSKE_LIMIT, at(18, 12), 0},
+        {"an end without the bit", join((struct bytes){12, m.p}, H("0000 0000")), NTSKE_LIMIT, at(18, 12), 0},
+        {"a server", join(name, m), NTSKE_LIMIT, NTSKE_OK, 7},
+        {"a server that is not ASCII", join(foreign, m), NTSKE_LIMIT, at(18, 0), 0},
+        {"a server that is not UTF-8", join(H("8006 0001 C3"), m), NTSKE_LIMIT, at(2, 0), 0},
+        {"a denied name, which is unknown", join(H("000D 0001 FF"), m), NTSKE_LIMIT, NTSKE_OK, 5},
+        {"the same with the bit", join(H("800D 0001 FF"), m), NTSKE_LIMIT, at(3, 0), 0},
+        {"keep-alive", join(H("0008 0000"), m), NTSKE_LIMIT, NTSKE_OK, 4},
+        {"the same with the bit", join(H("8008 0000"), m), NTSKE_LIMIT, at(3, 0), 0},
+        {"a port", join(H("8007 0002 007B"), m), NTSKE_LIMIT, NTSKE_OK, 6},
+        {"a byte behind the end, and a list is missing", H("8001 0002 0000 8000 0000 00"), NTSKE_LIMIT, at(18, 10), 0},
+        {"a list is missing", H("8001 0002 0000 8000 0000"), NTSKE_LIMIT, at(4, 6), 0},
+        {"a support request", H("8009 0000 000E 0000 8000 0000"), NTSKE_LIMIT, at(3, 0), 0},
+        {"an error without the bit", H("0002 0002 0001"), NTSKE_LIMIT, at(18, 0), 0},
+        {"an error", H("8002 0002 0001"), NTSKE_LIMIT, at(4, 0), 0},
+        {"an error of three bytes without the bit", H("0002 0003 000100"), NTSKE_LIMIT, at(2, 0), 0},
+        {"a second list without the bit", H("8001 0000 0001 0000"), NTSKE_LIMIT, at(18, 4), 0},
+    };
+    for (size_t i = 0; i < sizeof requests / sizeof *requests; i++) {
+        size_t by = requests[i].by;
+        struct ntske_request moved = key_exchange(PART(4 + by, 2), PART(10 + by, 2), 0);
+        request_in(NTSKE_STRICT, requests[i].what, requests[i].m, requests[i].limit, 4, requests[i].want, moved, NO_WORDS);
+        request_in(NTSKE_STRICT, requests[i].what, requests[i].m, requests[i].limit, 0, requests[i].want, moved, NO_WORDS);
+    }
+
+    struct under usual = UNDER(NTSKE_LIMIT, 64, 8);
+    feeds_strictly("the request of document 01", m, usual, ended(12, 16), NTSKE_OK, read);
+    feeds_strictly("and a buffer for it alone", m, UNDER(NTSKE_LIMIT, 16, 0), ended(12, 16), NTSKE_OK, read);
+    feeds_strictly("a byte behind the end", join(m, H("00")), usual, followed(12, 16), at(18, 16), none);
+    feeds_strictly("bytes behind the end, and a buffer for the message alone", join(m, m), UNDER(NTSKE_LIMIT, 16, 8), followed(12, 16), at(18, 16), none);
+    feeds_strictly("limit 16", join(m, m), UNDER(16, 16, 8), whole(12, 16), NTSKE_OK, read);
+    feeds_strictly("limit 17", join(m, m), UNDER(17, 16, 8), followed(12, 16), at(18, 16), none);
+    feeds_strictly("limit 15", m, UNDER(15, 64, 8), limited(15), at(1, 12), none);
+    feeds_strictly("a buffer of 15", m, UNDER(NTSKE_LIMIT, 15, 8), full(15), at(16, 15), none);
+    feeds_strictly("a byte short", (struct bytes){15, m.p}, usual, closed(15), at(1, 12), none);
+    feeds_strictly("protocols without the bit", H("0001 0002 0000 FF"), usual, whole(0, 6), at(18, 0), none);
+    feeds_strictly("an end with a body", H("8000 0001 00 FF"), usual, whole(0, 5), at(18, 0), none);
+    feeds_strictly("an end without the bit", H("0000 0000 FF"), usual, whole(0, 4), at(18, 0), none);
+    feeds_strictly("a server that is not ASCII", foreign, usual, whole(0, 6), at(18, 0), none);
+    feeds_strictly("the same cut by the close", (struct bytes){5, foreign.p}, usual, closed(5), at(2, 0), none);
+    feeds_strictly("a list is missing", H("8001 0002 0000 8000 0000"), usual, ended(6, 10), at(4, 6), none);
+    feeds_strictly("and a byte follows", H("8001 0002 0000 8000 0000 00"), usual, followed(6, 10), at(18, 10), none);
+    feeds_strictly("kinds that are unknown", join(H("000D 0001 FF 0008 0000 000E 0000"), m), usual, ended(25, 29), NTSKE_OK, key_exchange(PART(17, 2), PART(23, 2), 0));
+    feeds_strictly("and one with the bit", H("000E 0000 800E 0000"), usual, whole(4, 8), at(3, 4), none);
+
+    struct bytes r = H("8001 0002 0000 8004 0002 000F 0005 0004 DEADBEEF 8000 0000");
+    struct ntske_reply one = REPLY(.algorithm = 15, .cookies = 1), no = REPLY(.cookies = 0);
+    const struct { const char *what; struct bytes m; size_t cells; uint64_t want; struct ntske_reply answer; struct words table; } replies[] = {
+        {"a reply", r, 2, NTSKE_OK, one, WORDS(16, 4)},
+        {"a reply, one cell", r, 1, at(7, 20), no, NO_WORDS},
+        {"a byte behind its end", join(r, H("FF")), 2, at(18, 24), no, NO_WORDS},
+        {"keep-alive, which is unknown", join(H("0008 0000"), r), 2, NTSKE_OK, one, WORDS(20, 4)},
+        {"a server", join(name, r), 2, NTSKE_OK, REPLY(.algorithm = 15, .has_server = 1, .server = {4, 3}, .cookies = 1), WORDS(23, 4)},
+        {"a server that is not ASCII", join(foreign, r), 2, at(18, 0), no, NO_WORDS},
+        {"an error", H("8002 0002 0001"), 2, with(11, 1, 0), no, NO_WORDS},
+        {"an error without the bit", H("0002 0002 0001"), 2, at(18, 0), no, NO_WORDS},
+        {"a warning", H("8003 0002 0007"), 2, with(12, 7, 0), no, NO_WORDS},
+        {"a warning without the bit", H("0003 0002 0007"), 2, at(18, 0), no, NO_WORDS},
+        {"authentication, which is unknown", join(H("000E 0000"), r), 2, NTSKE_OK, one, WORDS(20, 4)},
+        {"no cookie, and a byte behind the end", join(m, H("00")), 2, at(18, 16), no, NO_WORDS},
+        {"no cookie", m, 2, at(15, 12), no, NO_WORDS},
+    };
+    for (size_t i = 0; i < sizeof replies / sizeof *replies; i++)
+        reply_in(NTSKE_STRICT, replies[i].what, usually, replies[i].m, NTSKE_LIMIT, replies[i].cells, replies[i].want, replies[i].answer, replies[i].table);
+    reply_in(NTSKE_STRICT, "an algorithm that was not offered", OFFERED(WORDS(0), WORDS(17)), r, NTSKE_LIMIT, 2, with(ALGORITHM_17, 15, 20), no, NO_WORDS);
+
+    feeds_reply_strictly("a reply", r, UNDER(NTSKE_LIMIT, 24, 2), ended(20, 24), NTSKE_OK, one, WORDS(16, 4));
+    feeds_reply_strictly("a reply, one cell", r, UNDER(NTSKE_LIMIT, 64, 1), ended(20, 24), at(7, 20), no, NO_WORDS);
+    feeds_reply_strictly("a byte behind its end", join(r, H("FF")), UNDER(NTSKE_LIMIT, 24, 2), followed(20, 24), at(18, 24), no, NO_WORDS);
+    feeds_reply_strictly("a reply, limit 24", join(r, H("FF")), UNDER(24, 24, 2), whole(20, 24), NTSKE_OK, one, WORDS(16, 4));
+    feeds_reply_strictly("an error", H("8002 0002 0001 FF"), usual, whole(0, 6), with(11, 1, 0), no, NO_WORDS);
+    feeds_reply_strictly("an error without the bit", H("0002 0002 0001 FF"), usual, whole(0, 6), at(18, 0), no, NO_WORDS);
+    feeds_reply_strictly("no cookie", m, usual, ended(12, 16), at(15, 12), no, NO_WORDS);
+}
+
 /* Cells that no call leaves, and a connection that counts too many bytes: 9, and nothing changes. */
 static void no_connection(const char *what, struct ntske_connection connection, size_t room)
 {
@@ -1140,11 +1258,16 @@ static void no_connection(const char *what, struct ntske_connection connection, 
 static void connections(void)
 {
     static const uint16_t limits[] = {0, 1, 4096, NTSKE_LIMIT};
-    for (size_t i = 0; i < sizeof limits / sizeof *limits; i++) {
-        struct ntske_connection *c = lend(NULL, sizeof *c), want = CONNECTION(.limit = limits[i]);
-        uint64_t got = ntske_connection_new(limits[i], c);
-        becomes(c, 0, &want, sizeof want);
-        after("a read is started", got, NTSKE_OK);
+    for (size_t i = 0; i < sizeof limits / sizeof *limits; i++)
+        for (size_t profile = NTSKE_USUAL; profile <= NTSKE_STRICT; profile++) {
+            struct ntske_connection *c = lend(NULL, sizeof *c), want = CONNECTION(.limit = limits[i], .profile = profile);
+            uint64_t got = profile == NTSKE_STRICT ? ntske_connection_new_strict(limits[i], c) : ntske_connection_new(limits[i], c);
+            becomes(c, 0, &want, sizeof want);
+            after("a read is started", got, NTSKE_OK);
+        }
+    for (size_t state = 0; state < 3; state++) {
+        no_connection("profile 2", CONNECTION(.limit = 64, .state = state, .number = state == 2, .profile = 2), 64);
+        no_connection("profile SIZE_MAX", CONNECTION(.limit = 64, .state = state, .number = state == 2, .profile = SIZE_MAX), 64);
     }
     no_connection("limit 65,536", CONNECTION(.limit = 65536), 64);
     no_connection("limit SIZE_MAX", CONNECTION(.limit = SIZE_MAX), 64);
@@ -1163,7 +1286,7 @@ static void connections(void)
         no_connection("a place without a refusal", CONNECTION(.limit = 64, .state = state, .place = 1), 64);
     }
     no_connection("refused with 0", CONNECTION(.limit = 64, .state = 2), 64);
-    static const size_t numbers[] = {17, 18, 255, 256, 257, 261, 272, 274, 512, 513, 528, 530, 785, 65535, 65536 + 273, 65536 + 1, SIZE_MAX};
+    static const size_t numbers[] = {17, 19, 255, 256, 257, 261, 272, 274, 512, 513, 528, 530, 785, 65535, 65536 + 273, 65536 + 1, SIZE_MAX};
     for (size_t i = 0; i < sizeof numbers / sizeof *numbers; i++) {
         no_connection("refused with another number", CONNECTION(.limit = 64, .state = 2, .number = numbers[i]), 64);
         no_connection("and one beside it", CONNECTION(.limit = 64, .state = 2, .number = numbers[i], .beside = 15, .place = 20), 64);
@@ -1171,7 +1294,7 @@ static void connections(void)
     no_connection("a code above 65,535", CONNECTION(.limit = 64, .state = 2, .number = 11, .beside = 65536), 64);
     no_connection("a protocol above 65,535", CONNECTION(.limit = 64, .state = 2, .number = PROTOCOL_17, .beside = 65536), 64);
     no_connection("an algorithm above 65,535", CONNECTION(.limit = 64, .state = 2, .number = ALGORITHM_17, .beside = 65536), 64);
-    for (size_t n = 1; n < NTSKE_NOT_OFFERED; n++)
+    for (size_t n = 1; n < REFUSALS; n++)
         if (!ntske_has_beside(n))
             no_connection("a number beside one that has none", CONNECTION(.limit = 64, .state = 2, .number = n, .beside = 1), 64);
     for (size_t state = 0; state < 2; state++)
@@ -1181,7 +1304,7 @@ static void connections(void)
 
     /* a refusal that was kept is told again, whatever it is */
     for (unsigned i = 1; i <= REFUSALS; i++) {
-        unsigned n = i < NTSKE_NOT_OFFERED ? i : i == NTSKE_NOT_OFFERED ? PROTOCOL_17 : ALGORITHM_17;
+        unsigned n = i == NTSKE_NOT_OFFERED ? PROTOCOL_17 : i == REFUSALS ? ALGORITHM_17 : i;
         uint64_t want = ntske_has_beside(n) ? with(n, 65535, 4294967295) : at(n, 4294967295);
         struct ntske_connection kept = CONNECTION(.limit = 64, .state = 2, .number = n, .beside = ntske_beside(want), .place = ntske_place(want));
         struct bytes m = H("8001 0000");
@@ -1593,6 +1716,7 @@ static void header(void)
         {0xFFFFFFFFFFFF0211, 17, 65535, 4294967295, NTSKE_BESIDE_ALGORITHM},
         {NTSKE_NOT_OFFERED, 17, 0, 0, NTSKE_BESIDE_NONE},
         {0x0000001400000311, 17, 0, 20, NTSKE_BESIDE_NONE},
+        {0x0000001000000012, 18, 0, 16, NTSKE_BESIDE_NONE},
         {0xFFFFFFFFFFFFFFFF, 255, 65535, 4294967295, NTSKE_BESIDE_NONE},
     };
     for (size_t i = 0; i < sizeof words / sizeof *words; i++) {
@@ -1622,8 +1746,9 @@ static void header(void)
         "no cookie",
         "the buffer has no room for a byte that the read needs",
         "the reply names what was not offered",
+        "the strict profile does not allow the record, or the byte after the end",
     };
-    static const uint16_t codes[REFUSALS] = {2, 1, 1, 0, 1, 1, 1, 2, 2, 2, 2, 2, 2, 2, 2, 2, 2, 2};
+    static const uint16_t codes[REFUSALS] = {2, 1, 1, 0, 1, 1, 1, 2, 2, 2, 2, 2, 2, 2, 2, 2, 2, 2, 1};
     for (unsigned i = 0; i < REFUSALS; i++)
         for (unsigned j = 0; j < 2; j++) {
             uint64_t answer = j ? with(i, 65535, 4294967295) : i;
@@ -1633,7 +1758,7 @@ static void header(void)
     static const struct { unsigned number; const char *said; } told[] = {
         {PROTOCOL_17, "the reply's protocol was not offered"},
         {ALGORITHM_17, "the reply's algorithm was not offered"},
-        {18, "a refusal that this header does not know"},
+        {19, "a refusal that this header does not know"},
         {255, "a refusal that this header does not know"},
     };
     for (size_t i = 0; i < sizeof told / sizeof *told; i++)
@@ -1642,7 +1767,7 @@ static void header(void)
             check(strcmp(ntske_words(answer), told[i].said) == 0, "in words", ntske_words(answer), told[i].number);
             check(ntske_error_code(answer) == NTSKE_CODE_INTERNAL_SERVER_ERROR, "a code", "for the refusal", told[i].number);
         }
-    check(strcmp(ntske_words(at(65535, 1)), ntske_words(18)) == 0, "in words", ntske_words(at(65535, 1)), 65535);
+    check(strcmp(ntske_words(at(65535, 1)), ntske_words(19)) == 0, "in words", ntske_words(at(65535, 1)), 65535);
     check(strcmp(ntske_words(NTSKE_WAITING), "the read waits for more bytes") == 0, "in words", ntske_words(NTSKE_WAITING), NTSKE_WAITING);
 
     /* RFC 8915, section 5.1: two bytes of the protocol, two of the algorithm, and 0 for the key from client to server or 1 for the other */
@@ -1674,6 +1799,7 @@ int main(void)
         offering();
         deciding();
         feeding();
+        strictly();
         connections();
         listing();
         choosing();

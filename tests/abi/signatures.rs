@@ -15,9 +15,11 @@ const CRATES: [&str; 7] = ["reading", "deciding", "feeding", "handing", "plannin
 
 /// The struct in C of a lent array: the function (of any where there is none), the argument, what a cell is, how many there are, and the struct. The
 /// last one is no argument's: a finding has an array of them.
-const STRUCTS: [(&str, &str, &str, usize, &str); 18] = [
+const STRUCTS: [(&str, &str, &str, usize, &str); 20] = [
     ("ntske_read_request", "answer", "usize", 10, "ntske_request"),
     ("ntske_read_reply", "answer", "usize", 9, "ntske_reply"),
+    ("ntske_read_request_strict", "answer", "usize", 10, "ntske_request"),
+    ("ntske_read_reply_strict", "answer", "usize", 9, "ntske_reply"),
     ("ntske_decide_request", "answer", "usize", 10, "ntske_request"),
     ("ntske_feed_request", "answer", "usize", 10, "ntske_request"),
     ("ntske_close_request", "answer", "usize", 10, "ntske_request"),
@@ -29,7 +31,7 @@ const STRUCTS: [(&str, &str, &str, usize, &str); 18] = [
     ("ntske_number", "answer", "usize", 3, "ntske_listed"),
     ("ntske_pair", "answer", "usize", 3, "ntske_listed"),
     ("ntske_choose", "answer", "usize", 2, "ntske_choice"),
-    ("", "connection", "usize", 8, "ntske_connection"),
+    ("", "connection", "usize", 9, "ntske_connection"),
     ("", "plan", "usize", 8, "ntske_plan"),
     ("", "item", "usize", 7, "ntske_record"),
     ("", "finding", "u16", 48, "ntske_finding"),
@@ -408,6 +410,8 @@ fn numbers(header: &str, read: &impl Fn(&str) -> String) -> Vec<String> {
         .collect();
     let bits = arms(between(&reading, "fn ntske_bit_named(", "\n}\n"), "Bit::");
     let bits = bits.into_iter().map(|(name, told)| (in_capitals(&name), number(first_of(&told)))).collect();
+    let profiles = arms(between(&feeding, "fn profile_cell(", "\n}\n"), "Profile::");
+    let profiles = profiles.into_iter().map(|(name, told)| (in_capitals(&name), number(first_of(&told)))).collect();
     let asked = between(&writing, "    Asked {\n", "    }\n").lines().map(|line| {
         let (name, bit) = line.trim().split_once(": n").expect("a flag of what is asked");
         let value = bit.trim().strip_prefix("/ ").map_or(1, |bit| number(first_of(bit)));
@@ -424,10 +428,11 @@ fn numbers(header: &str, read: &impl Fn(&str) -> String) -> Vec<String> {
     let one = |name: &str| of_plan.iter().find(|of| of.0 == name).unwrap_or_else(|| panic!("no Plan::{name}")).1;
     let tags = vec![("COOKIE".to_string(), one("COOKIE")), ("DENIED".to_string(), one("DENIED"))];
     for (name, prefix, ours, least) in [
-        ("ntske_refusals", "NTSKE_", refusals.clone(), 17),
+        ("ntske_refusals", "NTSKE_", refusals.clone(), 18),
         ("ntske_kinds", "NTSKE_KIND_", kinds, 14),
         ("ntske_bits", "NTSKE_BIT_", bits, 3),
         ("ntske_found_indices", "NTSKE_FOUND_", indices, 15),
+        ("ntske_profiles", "NTSKE_", profiles, 2),
         ("ntske_sorts", "NTSKE_", sorts, 3),
         ("ntske_protocols", "NTSKE_", constants(&nts, "NextProtocol"), 2),
         ("ntske_algorithms", "NTSKE_", algorithms, 2),
@@ -547,12 +552,13 @@ fn words(header: &str, refusal: &str) -> Vec<String> {
     };
     let (mut said, apart) = (sentences("words"), sentences("not_offered"));
     let mut found = vec![];
-    if (said.len(), apart.len()) != (18, 2) {
-        found.push(format!("ntske_words: {} sentences for 0 to 17, and {} of 17", said.len(), apart.len()));
+    if (said.len(), apart.len()) != (19, 2) {
+        found.push(format!("ntske_words: {} sentences for 0 to 18, and {} of 17", said.len(), apart.len()));
+        return found;
     }
-    said.truncate(17);
+    said.splice(17..18, apart);
     let mut rest = refusal;
-    for (n, sentence) in said.iter().chain(&apart).enumerate().skip(1) {
+    for (n, sentence) in said.iter().enumerate().skip(1) {
         let forms = [format!("\"{sentence}\""), format!("\"{sentence}, ")];
         match forms.iter().filter_map(|form| rest.find(form.as_str())).min() {
             Some(at) => rest = &rest[at..],

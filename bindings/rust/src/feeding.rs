@@ -1,7 +1,7 @@
 //! A read that is fed as the line delivers.
 
 use crate::refusal::read;
-use crate::{raw, Denied, Message, Offered, Refusal, Reply, Request};
+use crate::{raw, Denied, Message, Offered, Profile, Refusal, Reply, Request};
 use core::fmt;
 
 /// What a piece led to that was not refused.
@@ -17,7 +17,7 @@ pub enum Fed<T> {
 /// gather. It lends both to the next call as the last one left them; the table may be another each time.
 ///
 /// A record is judged when it stands whole, or when the limit or the close cuts it. The answer, unless it is 16, is that
-/// of [`Message::request`] or [`Message::reply`] on all pieces joined, the latter with what is told as [`Offered`] to the
+/// of [`Message::request_in`] or [`Message::reply_in`] on all pieces joined, the latter with what is told as [`Offered`] to the
 /// call that answers. Once there is one, every later call gives it again and changes nothing: one that was accepted
 /// whatever the table is that is lent then, in which names and cookies are looked for; a refusal also where a larger table
 /// or buffer is lent; and either whatever was offered then.
@@ -64,9 +64,42 @@ pub struct Connection(raw::ConnectionCells);
 impl Connection {
     /// A read of a message that is cut after `limit` bytes, which has been handed nothing.
     pub fn start(limit: u16) -> Self {
-        let mut cells = [0; 8];
-        raw::connection_new(limit, &mut cells);
+        Self::start_in(Profile::Usual, limit)
+    }
+
+    /// The same in a profile, which the connection keeps. Since in the strict one no byte may follow the end record, such
+    /// a read waits once more when that stands whole and nothing was refused: it answers at the close, at once where the
+    /// end record ends at the limit, or when a byte inside the limit follows, with 18. That byte is not stored, and is
+    /// never 16.
+    ///
+    /// ```
+    /// use ntske::*;
+    ///
+    /// let message = [0x80, 1, 0, 2, 0, 0, 0x80, 4, 0, 2, 0, 15, 0x80, 0, 0, 0];
+    /// let (mut buffer, mut table) = ([0; 16], [0; 0]);
+    /// let mut line = Connection::start_in(Profile::Strict, LIMIT);
+    /// assert!(matches!(line.feed_request(&message, &mut buffer, &mut table)?, Fed::Waiting));
+    /// let mut other = line;
+    /// assert!(matches!(line.close_request(&mut buffer, &mut table)?, Request::KeyExchange { .. }));
+    /// let refusal = other.feed_request(&[0], &mut buffer, &mut table).unwrap_err();
+    /// assert_eq!(refusal, Refusal { why: Refused::NotAllowed, place: 16 });
+    /// # Ok::<(), Refusal>(())
+    /// ```
+    pub fn start_in(profile: Profile, limit: u16) -> Self {
+        let mut cells = [0; 9];
+        match profile {
+            Profile::Usual => raw::connection_new(limit, &mut cells),
+            Profile::Strict => raw::connection_new_strict(limit, &mut cells),
+        };
         Connection(cells)
+    }
+
+    /// The profile in which the message is read.
+    pub const fn profile(&self) -> Profile {
+        match self.0[8] {
+            0 => Profile::Usual,
+            _ => Profile::Strict,
+        }
     }
 
     /// After how many bytes the message is cut.
@@ -80,8 +113,8 @@ impl Connection {
         self.0[1]
     }
 
-    /// Hands over a piece of a request, which may be empty. Refusals: 9, 1 to 7, 16; and the one that the connection
-    /// holds.
+    /// Hands over a piece of a request, which may be empty. Refusals: 9, 1 to 7, 16, in the strict profile 18; and the one
+    /// that the connection holds.
     pub fn feed_request<'b, 't>(
         &mut self,
         piece: &[u8],
@@ -108,8 +141,8 @@ impl Connection {
         self.request(word, &answer, again, buffer, table)
     }
 
-    /// Hands over a piece of a reply, which may be empty, and what the client offered. Refusals: 9, 1 to 4, 7, 11 to 17;
-    /// and the one that the connection holds.
+    /// Hands over a piece of a reply, which may be empty, and what the client offered. Refusals: 9, 1 to 4, 7, 11 to 17,
+    /// in the strict profile 18; and the one that the connection holds.
     pub fn feed_reply<'b, 't>(
         &mut self,
         piece: &[u8],
@@ -174,7 +207,7 @@ impl Connection {
 
 impl fmt::Debug for Connection {
     fn fmt(&self, f: &mut fmt::Formatter<'_>) -> fmt::Result {
-        let [limit, gathered, begins, met, state, number, beside, place] = self.0;
+        let [limit, gathered, begins, met, state, number, beside, place, _] = self.0;
         f.debug_struct("Connection")
             .field("limit", &limit)
             .field("gathered", &gathered)
@@ -184,6 +217,7 @@ impl fmt::Debug for Connection {
             .field("number", &number)
             .field("beside", &beside)
             .field("place", &place)
+            .field("profile", &self.profile())
             .finish()
     }
 }

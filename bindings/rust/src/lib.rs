@@ -9,8 +9,8 @@
 //!
 //! A host that takes a message off a line feeds a [`Connection`] with what comes, as it comes. One that logs which
 //! records a request held, also where it is refused, looks at a [`Finding`]. One that shows a message record by record,
-//! and where its sender forgot or added a critical bit, walks over [`Message::records`]. A server, once a whole request
-//! is there:
+//! and where its sender forgot or added a critical bit, walks over [`Message::records`]. One that may take only what RFC
+//! 8915 allows reads in the strict [`Profile`]. A server, once a whole request is there:
 //!
 //! ```
 //! use ntske::*;
@@ -75,7 +75,7 @@ pub use numbers::{
     EXPORTER_LABEL, LIMIT, LISTING, PORT, VERSION,
 };
 pub use planning::{Plan, Tray};
-pub use reading::{choose, choose_protocol, is_utf8, Chosen, Message, Offered, Reply, Request};
+pub use reading::{choose, choose_protocol, is_utf8, Chosen, Message, Offered, Profile, Reply, Request};
 pub use record::{bit_named, Placed, Record, Records, Slip};
 pub use refusal::{Refusal, Refused};
 pub use views::{

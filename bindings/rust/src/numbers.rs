@@ -19,7 +19,7 @@ pub const LIMIT: u16 = 65_535;
 /// proved: `listing-longest`, in crates/listing/proofs/Longest.antt.
 pub const LISTING: usize = 262_272;
 
-/// This package's version, a byte each: 0x000400 for 0.4.0. [`version`] tells the archive's.
+/// This package's version, a byte each: 0x000500 for 0.5.0. [`version`] tells the archive's.
 pub const VERSION: u64 = {
     const fn number(text: &str) -> u64 {
         let (text, mut number, mut at) = (text.as_bytes(), 0, 0);

@@ -30,6 +30,26 @@ extern "C" {
         table_len: usize,
         answer: *mut [usize; 9],
     ) -> u64;
+    fn ntske_read_request_strict(
+        message: *const u8,
+        message_len: usize,
+        limit: u16,
+        table: *mut u16,
+        table_len: usize,
+        answer: *mut [usize; 10],
+    ) -> u64;
+    fn ntske_read_reply_strict(
+        message: *const u8,
+        message_len: usize,
+        limit: u16,
+        protocols: *const u16,
+        protocols_len: usize,
+        algorithms: *const u16,
+        algorithms_len: usize,
+        table: *mut u16,
+        table_len: usize,
+        answer: *mut [usize; 9],
+    ) -> u64;
     fn ntske_walk_request(message: *const u8, message_len: usize, limit: u16, finding: *mut [u16; 48]) -> u64;
     fn ntske_decide_request(
         finding: *const [u16; 48],
@@ -39,9 +59,10 @@ extern "C" {
         table_len: usize,
         answer: *mut [usize; 10],
     ) -> u64;
-    fn ntske_connection_new(limit: u16, connection: *mut [usize; 8]) -> u64;
+    fn ntske_connection_new(limit: u16, connection: *mut [usize; 9]) -> u64;
+    fn ntske_connection_new_strict(limit: u16, connection: *mut [usize; 9]) -> u64;
     fn ntske_feed_request(
-        connection: *mut [usize; 8],
+        connection: *mut [usize; 9],
         piece: *const u8,
         piece_len: usize,
         buffer: *mut u8,
@@ -51,7 +72,7 @@ extern "C" {
         answer: *mut [usize; 10],
     ) -> u64;
     fn ntske_close_request(
-        connection: *mut [usize; 8],
+        connection: *mut [usize; 9],
         buffer: *mut u8,
         buffer_len: usize,
         table: *mut u16,
@@ -59,7 +80,7 @@ extern "C" {
         answer: *mut [usize; 10],
     ) -> u64;
     fn ntske_feed_reply(
-        connection: *mut [usize; 8],
+        connection: *mut [usize; 9],
         piece: *const u8,
         piece_len: usize,
         protocols: *const u16,
@@ -73,7 +94,7 @@ extern "C" {
         answer: *mut [usize; 9],
     ) -> u64;
     fn ntske_close_reply(
-        connection: *mut [usize; 8],
+        connection: *mut [usize; 9],
         protocols: *const u16,
         protocols_len: usize,
         algorithms: *const u16,
@@ -242,7 +263,7 @@ pub type ReplyCells = [usize; 9];
 pub type FindingCells = [u16; 48];
 
 /// A read in pieces.
-pub type ConnectionCells = [usize; 8];
+pub type ConnectionCells = [usize; 9];
 
 /// The word of a call after which the read waits: not 0, and no refusal's.
 pub const WAITING: u64 = 65_535;
@@ -315,6 +336,40 @@ pub fn read_reply(
 }
 
 #[inline]
+pub fn read_request_strict(message: &[u8], limit: u16, table: &mut [u16], answer: &mut RequestCells) -> u64 {
+    let (table_len, table) = (table.len(), table.as_mut_ptr());
+    // Safety: message and table are slices, answer an array; the last two are borrowed alone.
+    unsafe { ntske_read_request_strict(message.as_ptr(), message.len(), limit, table, table_len, answer) }
+}
+
+#[inline]
+pub fn read_reply_strict(
+    message: &[u8],
+    limit: u16,
+    protocols: &[NextProtocol],
+    algorithms: &[AeadAlgorithm],
+    table: &mut [u16],
+    answer: &mut ReplyCells,
+) -> u64 {
+    let (protocols, algorithms) = (protocol_numbers(protocols), algorithm_numbers(algorithms));
+    // Safety: message, lists and table are slices, answer an array; the last two are borrowed alone.
+    unsafe {
+        ntske_read_reply_strict(
+            message.as_ptr(),
+            message.len(),
+            limit,
+            protocols.as_ptr(),
+            protocols.len(),
+            algorithms.as_ptr(),
+            algorithms.len(),
+            table.as_mut_ptr(),
+            table.len(),
+            answer,
+        )
+    }
+}
+
+#[inline]
 pub fn walk_request(message: &[u8], limit: u16, finding: &mut FindingCells) -> u64 {
     // Safety: message is a slice, and finding an array that is borrowed alone.
     unsafe { ntske_walk_request(message.as_ptr(), message.len(), limit, finding) }
@@ -330,6 +385,12 @@ pub fn decide_request(finding: &FindingCells, message: &[u8], table: &mut [u16],
 pub fn connection_new(limit: u16, connection: &mut ConnectionCells) -> u64 {
     // Safety: connection is an array that is borrowed alone.
     unsafe { ntske_connection_new(limit, connection) }
+}
+
+#[inline]
+pub fn connection_new_strict(limit: u16, connection: &mut ConnectionCells) -> u64 {
+    // Safety: connection is an array that is borrowed alone.
+    unsafe { ntske_connection_new_strict(limit, connection) }
 }
 
 #[inline]

@@ -8,6 +8,21 @@ use crate::{
     Refusal, Refused,
 };
 
+/// How a message is read.
+#[derive(Clone, Copy, Debug, Default, PartialEq, Eq, Hash)]
+pub enum Profile {
+    /// As document 01 has it: what [`Message::request`], [`Message::reply`] and
+    /// [`Connection::start`](crate::Connection::start) take.
+    #[default]
+    Usual,
+    /// As RFC 8915 alone allows. Kinds 8 to 14 are unknown: passed over with their bit clear, and 3 with it set, whatever
+    /// their body holds. So a request is a key exchange without denied names, and a reply tells no keep-alive. 18 is for a
+    /// record of kind 0, 1, 2 or 3 without its critical bit, an end record with a body, and a server name with a byte above
+    /// 7F, after 1 and 2 of that record and before what it means; and for a byte that follows the end record inside the
+    /// limit, at that byte's place, before all that is decided after the end.
+    Strict,
+}
+
 /// A message as it came from the other side. `{:?}` shows only how long it is.
 #[derive(Clone, Copy)]
 pub struct Message<'m>(&'m [u8]);
@@ -173,8 +188,32 @@ impl<'m> Message<'m> {
     /// # }
     /// ```
     pub fn request<'t>(self, limit: u16, table: &'t mut [u16]) -> Result<Request<'m, 't>, Refusal> {
+        self.request_in(Profile::Usual, limit, table)
+    }
+
+    /// Reads a request in a profile. Refusals: 1 to 7; in the strict one 1 to 4 and 18.
+    ///
+    /// ```
+    /// use ntske::*;
+    ///
+    /// // a list of protocols without its critical bit, which RFC 8915 asks for
+    /// let message = [0, 1, 0, 2, 0, 0, 0x80, 4, 0, 2, 0, 15, 0x80, 0, 0, 0];
+    /// let message = Message::new(&message);
+    /// assert!(message.request(LIMIT, &mut []).is_ok());
+    /// let refusal = message.request_in(Profile::Strict, LIMIT, &mut []).unwrap_err();
+    /// assert_eq!(refusal, Refusal { why: Refused::NotAllowed, place: 0 });
+    /// ```
+    pub fn request_in<'t>(
+        self,
+        profile: Profile,
+        limit: u16,
+        table: &'t mut [u16],
+    ) -> Result<Request<'m, 't>, Refusal> {
         let mut answer = [0; 10];
-        read(raw::read_request(self.0, limit, table, &mut answer))?;
+        read(match profile {
+            Profile::Usual => raw::read_request(self.0, limit, table, &mut answer),
+            Profile::Strict => raw::read_request_strict(self.0, limit, table, &mut answer),
+        })?;
         Ok(Request::told(self, &answer, |count| Denied::new(self.0, table, count)))
     }
 
@@ -193,8 +232,23 @@ impl<'m> Message<'m> {
     /// assert_eq!(refusal.to_string(), "refused 17 at 17: the reply's algorithm was not offered, algorithm 17");
     /// ```
     pub fn reply<'t>(self, limit: u16, offered: Offered<'_>, table: &'t mut [u16]) -> Result<Reply<'m, 't>, Refusal> {
+        self.reply_in(Profile::Usual, limit, offered, table)
+    }
+
+    /// Reads a reply in a profile. Refusals: 1 to 4, 7, 11 to 15, 17; in the strict one 18 besides.
+    pub fn reply_in<'t>(
+        self,
+        profile: Profile,
+        limit: u16,
+        offered: Offered<'_>,
+        table: &'t mut [u16],
+    ) -> Result<Reply<'m, 't>, Refusal> {
         let mut answer = [0; 9];
-        read(raw::read_reply(self.0, limit, offered.protocols, offered.algorithms, table, &mut answer))?;
+        let Offered { protocols, algorithms } = offered;
+        read(match profile {
+            Profile::Usual => raw::read_reply(self.0, limit, protocols, algorithms, table, &mut answer),
+            Profile::Strict => raw::read_reply_strict(self.0, limit, protocols, algorithms, table, &mut answer),
+        })?;
         Ok(Reply::told(self, &answer, table))
     }
 

@@ -43,6 +43,9 @@ pub enum Refused {
     ProtocolNotOffered(NextProtocol),
     /// 17: the reply's algorithm is none of those that were offered.
     AeadNotOffered(AeadAlgorithm),
+    /// 18: the strict profile does not allow the record, or the byte after the end record: see
+    /// [`Profile`](crate::Profile).
+    NotAllowed,
     /// A refusal that this package does not know: the archive is of another version.
     Unknown {
         /// The refusal's number.
@@ -53,7 +56,7 @@ pub enum Refused {
 }
 
 impl Refused {
-    /// The refusal's number: 1 to 17, or one that is not known.
+    /// The refusal's number: 1 to 18, or one that is not known.
     pub const fn number(self) -> u16 {
         match self {
             Refused::UnexpectedEof => 1,
@@ -73,6 +76,7 @@ impl Refused {
             Refused::NoCookie => 15,
             Refused::BufferFull => 16,
             Refused::ProtocolNotOffered(_) | Refused::AeadNotOffered(_) => 17,
+            Refused::NotAllowed => 18,
             Refused::Unknown { number, .. } => number,
         }
     }
@@ -111,12 +115,13 @@ impl Refused {
             Refused::BufferFull => "the buffer has no room for a byte that the read needs",
             Refused::ProtocolNotOffered(_) => "the reply's protocol was not offered",
             Refused::AeadNotOffered(_) => "the reply's algorithm was not offered",
+            Refused::NotAllowed => "the strict profile does not allow the record, or the byte after the end",
             Refused::Unknown { .. } => "a refusal that this package does not know",
         }
     }
 
     /// The code of the error record with which a server answers a request that was refused so: 0 for 3; 1 for what is
-    /// the client's fault (1, 2, 4, 5, 6); 2 for what is the server's own (7 and 16, since its table or its buffer is
+    /// the client's fault (1, 2, 4, 5, 6, 18); 2 for what is the server's own (7 and 16, since its table or its buffer is
     /// too small, and any other). The replies to 13 and 14 are no errors: they are those of
     /// [`write_no_protocol`](crate::write_no_protocol) and [`write_no_algorithm`](crate::write_no_algorithm).
     pub const fn error_code(self) -> ErrorCode {
@@ -126,7 +131,8 @@ impl Refused {
             | Refused::InvalidData
             | Refused::Invalid
             | Refused::AeadNotSupported(_)
-            | Refused::IncorrectSizedKey => ErrorCode::BAD_REQUEST,
+            | Refused::IncorrectSizedKey
+            | Refused::NotAllowed => ErrorCode::BAD_REQUEST,
             _ => ErrorCode::INTERNAL_SERVER_ERROR,
         }
     }
@@ -151,6 +157,7 @@ impl Refused {
             14 => Refused::NoOverlappingAlgorithm,
             15 => Refused::NoCookie,
             16 => Refused::BufferFull,
+            18 => Refused::NotAllowed,
             0x0111 => Refused::ProtocolNotOffered(NextProtocol(beside)),
             0x0211 => Refused::AeadNotOffered(AeadAlgorithm(beside)),
             low => Refused::Unknown { number: low & 0xFF, beside },
@@ -184,7 +191,7 @@ pub struct Refusal {
     /// Why.
     pub why: Refused,
     /// The place of the record's first byte in the message. It is the end record where the refusal is decided after the
-    /// end. Of 16 it is the place of the byte that has no room.
+    /// end. Of 16 it is the place of the byte that has no room, and of 18 for a byte after the end record that byte's.
     pub place: usize,
 }
 

@@ -481,6 +481,11 @@ impl Line {
         Line { is_reply, offered: USUALLY, connection: Connection::start(limit), buffer: bytes(room) }
     }
 
+    fn strict(is_reply: bool, limit: u16, room: usize) -> Self {
+        let connection = Connection::start_in(Profile::Strict, limit);
+        Line { connection, ..Line::new(is_reply, limit, room) }
+    }
+
     /// A piece, or where there is none the close. Nothing where the read waits.
     fn hand(&mut self, piece: Option<&[u8]>, table: &mut [u16]) -> Option<Shown> {
         let (line, offered, buffer) = (&mut self.connection, self.offered, self.buffer.memory());
@@ -508,11 +513,23 @@ fn whole(is_reply: bool, message: &[u8], limit: u16, room: usize) -> (Shown, Vec
 
 /// The same, of a reply with what was offered.
 fn whole_to(offered: Offered, is_reply: bool, message: &[u8], limit: u16, room: usize) -> (Shown, Vec<u16>) {
+    whole_in(Profile::Usual, offered, is_reply, message, limit, room)
+}
+
+/// The same in a profile.
+fn whole_in(
+    profile: Profile,
+    offered: Offered,
+    is_reply: bool,
+    message: &[u8],
+    limit: u16,
+    room: usize,
+) -> (Shown, Vec<u16>) {
     let (mut table, message) = (cells(room), Message::new(message));
     let answer = if is_reply {
-        message.reply(limit, offered, table.memory()).map(|read| format!("{read:?}"))
+        message.reply_in(profile, limit, offered, table.memory()).map(|read| format!("{read:?}"))
     } else {
-        message.request(limit, table.memory()).map(|read| format!("{read:?}"))
+        message.request_in(profile, limit, table.memory()).map(|read| format!("{read:?}"))
     };
     (answer, table.memory().to_vec())
 }
@@ -564,22 +581,114 @@ fn however_a_message_is_cut_its_answer_is_the_whole_readers() {
         for is_reply in [false, true] {
             for limit in [LIMIT, 64, message.len() as u16, (message.len() as u16).saturating_sub(1), 6, 0] {
                 for room in [0, 2, 8] {
-                    let want = whole(is_reply, &message, limit, room);
-                    let mut gathered = vec![];
-                    for pieces in cut(&message) {
-                        let mut line = Line::new(is_reply, limit, 256);
-                        assert_eq!(
-                            in_pieces(&mut line, &pieces, room),
-                            want,
-                            "{pieces:02X?} limit {limit} room {room}"
-                        );
-                        gathered.push(line.connection);
+                    for (profile, start) in
+                        [(Profile::Usual, Line::new as fn(bool, u16, usize) -> Line), (Profile::Strict, Line::strict)]
+                    {
+                        let want = whole_in(profile, USUALLY, is_reply, &message, limit, room);
+                        let mut gathered = vec![];
+                        for pieces in cut(&message) {
+                            let mut line = start(is_reply, limit, 256);
+                            assert_eq!(
+                                in_pieces(&mut line, &pieces, room),
+                                want,
+                                "{pieces:02X?} limit {limit} room {room} {profile:?}"
+                            );
+                            gathered.push(line.connection);
+                        }
+                        assert!(gathered.iter().all(|line| *line == gathered[0]), "{gathered:?}");
                     }
-                    assert!(gathered.iter().all(|line| *line == gathered[0]), "{gathered:?}");
                 }
             }
         }
     }
+}
+
+fn refused<T>(why: Refused, place: usize) -> Result<T, Refusal> {
+    Err(Refusal { why, place })
+}
+
+fn not_allowed<T>(place: usize) -> Result<T, Refusal> {
+    refused(Refused::NotAllowed, place)
+}
+
+/// What order 5 asks of the strict profile: the message, and by how many bytes it begins later, or why and where it is refused.
+#[test]
+fn the_strict_profile_takes_what_the_rfc_allows() {
+    let end = "8000 0000";
+    let lists = M.strip_suffix(end).unwrap();
+    for (text, limit, want) in [
+        (M.into(), LIMIT, Ok(0)),
+        (M.replacen("8001", "0001", 1), LIMIT, not_allowed(0)),
+        (M.replacen("8004", "0004", 1), LIMIT, Ok(0)),
+        (format!("{M} 00"), LIMIT, not_allowed(16)),
+        (format!("{M} 00"), 16, Ok(0)),
+        (format!("{lists} 8000 0001 00"), LIMIT, not_allowed(12)),
+        (format!("{lists} 0000 0000"), LIMIT, not_allowed(12)),
+        (format!("8006 0002 C3A9 {M}"), LIMIT, not_allowed(0)),
+        (format!("8006 0001 C3 {M}"), LIMIT, refused(Refused::InvalidData, 0)),
+        (format!("000D 0001 FF {M}"), LIMIT, Ok(5)),
+        (format!("800D 0001 FF {M}"), LIMIT, refused(Refused::UnrecognizedCriticalRecord, 0)),
+        (format!("0008 0000 {M}"), LIMIT, Ok(4)),
+        (format!("8008 0000 {M}"), LIMIT, refused(Refused::UnrecognizedCriticalRecord, 0)),
+        (format!("8001 0002 0000 {end} 00"), LIMIT, not_allowed(10)),
+        (format!("8001 0002 0000 {end}"), LIMIT, refused(Refused::Invalid, 6)),
+        ("0002 0002 0001".into(), LIMIT, not_allowed(0)),
+        ("0002 0003 0001".into(), LIMIT, refused(Refused::InvalidData, 0)),
+    ] {
+        let (message, mut table) = (hex(&text), cells(4));
+        let read = Message::new(&message).request_in(Profile::Strict, limit, table.memory()).map(|read| match read {
+            Request::KeyExchange { protocols, algorithms, denied } => {
+                assert_eq!((protocols.bytes(), algorithms.bytes(), denied.len()), (&[0, 0][..], &[0, 15][..], 0));
+                protocols.bytes().as_ptr() as usize - message.as_ptr() as usize - 4
+            }
+            other => panic!("{other:?}"),
+        });
+        assert_eq!(read, want, "{text}");
+        table.holds(0, &[]);
+    }
+
+    let one = "8001 0002 0000 8004 0002 000F 0005 0004 DEADBEEF 8000 0000";
+    for (text, want) in [
+        (one.into(), Ok((1, false))),
+        (format!("0008 0000 {one}"), Ok((1, false))),
+        (format!("000E 0000 {one}"), Ok((1, false))),
+        (format!("{one} FF"), not_allowed(24)),
+        (format!("{M} FF"), not_allowed(16)),
+        (M.into(), refused(Refused::NoCookie, 12)),
+        ("8002 0002 0001".into(), refused(Refused::Error(ErrorCode(1)), 0)),
+        ("0002 0002 0001".into(), not_allowed(0)),
+        ("0003 0002 0001".into(), not_allowed(0)),
+    ] {
+        let (message, mut table) = (hex(&text), [0; 4]);
+        let read = Message::new(&message).reply_in(Profile::Strict, LIMIT, USUALLY, &mut table);
+        assert_eq!(read.map(|reply| (reply.cookies.len(), reply.keep_alive)), want, "{text}");
+    }
+}
+
+/// A strict read waits behind its end record for the close, or for a byte, which is not stored and needs no room.
+#[test]
+fn a_strict_read_waits_behind_its_end_record() {
+    let message = hex(M);
+    for room in [16, 17, 64] {
+        let mut line = Line::strict(false, LIMIT, room);
+        assert_eq!((line.connection.profile(), Connection::start(LIMIT).profile()), (Profile::Strict, Profile::Usual));
+        assert_ne!(line.connection, Connection::start(LIMIT));
+        for piece in [&message[..14], &message[14..], &[], &[]] {
+            assert_eq!(line.hand(Some(piece), &mut []), None);
+        }
+        let kept = line.connection;
+        let shown = "limit: 65535, gathered: 16, begins: 12, met: 18, state: 0, number: 0, beside: 0, place: 0";
+        assert_eq!(format!("{kept:?}"), format!("Connection {{ {shown}, profile: Strict }}"));
+        assert!(line.hand(None, &mut []).unwrap().is_ok());
+        line.connection = kept;
+        let followed = Some(Err(Refusal { why: Refused::NotAllowed, place: 16 }));
+        assert_eq!(line.hand(Some(&[0xFF]), &mut []), followed);
+        assert_eq!((line.connection.gathered(), line.hand(None, &mut [])), (16, followed));
+        line.buffer.holds(0, &message);
+    }
+    // at the limit it does not wait, and in the usual profile never
+    assert!(Line::strict(false, 16, 16).hand(Some(&message), &mut []).unwrap().is_ok());
+    assert!(Line::new(false, LIMIT, 16).hand(Some(&message), &mut []).unwrap().is_ok());
 }
 
 #[test]
@@ -633,7 +742,9 @@ fn a_connection_holds_what_was_not_offered() {
         let mut line = Connection::start(4096);
         let refusal = Refusal { why, place: 17 };
         assert_eq!(line.feed_reply(&message, offered, &mut buffer, &mut table).unwrap_err(), refusal);
-        let shown = format!("Connection {{ limit: 4096, gathered: 21, begins: 17, met: 50, state: 2, {cells} }}");
+        let shown = format!(
+            "Connection {{ limit: 4096, gathered: 21, begins: 17, met: 50, state: 2, {cells}, profile: Usual }}"
+        );
         assert_eq!(format!("{line:?}"), shown);
         // it comes again where all is offered, and from the calls of a request, too
         assert_eq!(line.feed_reply(&message, USUALLY, &mut buffer, &mut table).unwrap_err(), refusal);
@@ -684,8 +795,8 @@ fn a_connection_is_kept_and_copied() {
     assert!(matches!(line.feed_request(&message[..7], &mut buffer, &mut table), Ok(Fed::Waiting)));
     let kept = line;
     assert_eq!((kept.gathered(), kept == Connection::start(4096)), (7, false));
-    let shown = "Connection { limit: 4096, gathered: 7, begins: 6, met: 2, state: 0, number: 0, beside: 0, place: 0 }";
-    assert_eq!(format!("{kept:?}"), shown);
+    let shown = "limit: 4096, gathered: 7, begins: 6, met: 2, state: 0, number: 0, beside: 0, place: 0";
+    assert_eq!(format!("{kept:?}"), format!("Connection {{ {shown}, profile: Usual }}"));
 
     // a buffer that is shorter than what was gathered: 9, and nothing changes
     let no_value = Refusal { why: Refused::InvalidValue, place: 0 };
@@ -1169,7 +1280,7 @@ fn a_request_is_written() {
 }
 
 /// The refusals that the package knows, in the order of their numbers; of 17 there are two.
-const REFUSALS: [Refused; 18] = [
+const REFUSALS: [Refused; 19] = [
     Refused::UnexpectedEof,
     Refused::InvalidData,
     Refused::UnrecognizedCriticalRecord,
@@ -1188,24 +1299,26 @@ const REFUSALS: [Refused; 18] = [
     Refused::BufferFull,
     Refused::ProtocolNotOffered(NextProtocol(16)),
     Refused::AeadNotOffered(AeadAlgorithm(16)),
+    Refused::NotAllowed,
 ];
 
 #[test]
 fn each_refusal_has_its_number_and_words() {
-    assert!(REFUSALS.iter().map(|why| why.number()).eq((1..=17).chain([17])));
+    assert!(REFUSALS.iter().map(|why| why.number()).eq((1..=17).chain([17, 18])));
     let beside: Vec<_> = REFUSALS.iter().filter(|why| why.beside() == Some(16)).map(|why| why.number()).collect();
     assert_eq!((beside, REFUSALS.iter().filter_map(|why| why.beside()).count()), (vec![5, 11, 12, 17, 17], 5));
 
-    // the header's words are the same, behind the one for what is accepted and before the one for a bare 17; those of 17 stand apart
+    // the header's words are the same, behind the one for what is accepted and around the one for a bare 17; those of 17 stand apart
     let table = |name: &str| -> Vec<&str> {
         let table = HEADER.split_once(&format!(" {name}[] = {{")).unwrap().1.split_once("};").unwrap().0;
         table.split('"').skip(1).step_by(2).collect()
     };
     assert_eq!(table("words")[1..17], REFUSALS[..16].iter().map(|why| why.words()).collect::<Vec<_>>());
     assert_eq!(table("not_offered"), [REFUSALS[16].words(), REFUSALS[17].words()]);
+    assert_eq!(table("words")[18..], [REFUSALS[18].words()]);
 
     let codes: Vec<_> = REFUSALS.iter().map(|why| why.error_code().0).collect();
-    assert_eq!(codes, [1, 1, 0, 1, 1, 1, 2, 2, 2, 2, 2, 2, 2, 2, 2, 2, 2, 2]);
+    assert_eq!(codes, [1, 1, 0, 1, 1, 1, 2, 2, 2, 2, 2, 2, 2, 2, 2, 2, 2, 2, 1]);
 
     let refusal = Refusal { why: Refused::Error(ErrorCode(0)), place: 7 };
     assert_eq!(refusal.to_string(), "refused 11 at 7: the reply has an error record, code 0");
@@ -1234,6 +1347,7 @@ fn a_word_is_taken_apart() {
         assert_eq!((refusal.why.number(), refusal.place), (low & 0xFF, 0xFFFF_FFFF));
         match low {
             1..=16 => assert_eq!(refusal.why, REFUSALS[usize::from(low) - 1]),
+            18 => assert_eq!(refusal.why, Refused::NotAllowed),
             0x0111 => assert_eq!(refusal.why, Refused::ProtocolNotOffered(NextProtocol(16))),
             0x0211 => assert_eq!(refusal.why, Refused::AeadNotOffered(AeadAlgorithm(16))),
             _ => assert_eq!(refusal.why, Refused::Unknown { number: low & 0xFF, beside: 16 }),

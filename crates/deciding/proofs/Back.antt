@@ -7,7 +7,9 @@ use Prim.Native.Nat.{ℕ, zero, suc, _+_, _-_, _<_, _≤_}
 use native.Mathlib.Omega.{arith}
 use lib.ListN.{length, take}
 use Rattle.nts.specs.Refusal.{Beside, nothing, code, protocol, algorithm, Refused}
-use Rattle.walk.specs.Walk.{Outcome, stopped, ended, walk}
+use Rattle.layout.specs.Profile.{shapeIn}
+use Rattle.layout.specs.declared.Profile.the-variants.{Usual}
+use Rattle.walk.specs.Walk.{Outcome, stopped, ended, walked}
 use Rattle.walk.specs.Shown.{shown, counted}
 use Rattle.walk.specs.Found.{Way, wayRefused, wayEnded, wayOf}
 use Rattle.walk.specs.Finding.{Found, foundBy}
@@ -40,17 +42,17 @@ bare n (protocol x) c f = absurd (true≢false (sym f ∙ bare-not n c .1))
 bare n (algorithm x) c f = absurd (true≢false (sym f ∙ bare-not n c .1))
 
 module _ (m : List ℕ) (n : ℕ) where
-  way-told : (o : Outcome) → walk reader [] 0 0 (take n m) ≡ o → wayIn (placeCell (wayOf o)) (reasonCell (wayOf o)) ≡ wayOf o
+  way-told : (o : Outcome) → walked (reader Usual) (take n m) ≡ o → wayIn (placeCell (wayOf o)) (reasonCell (wayOf o)) ≡ wayOf o
   way-told (stopped r) e =
-      let k = stop-numbered (λ n. (1 ≤ n) × (bareNumber n ≡ true)) ((omega arith, refl), (omega arith, refl), (omega arith, refl), (omega arith, refl)) (take n m) r e in
+      let k = stop-numbered (λ n. (1 ≤ n) × (bareNumber n ≡ true)) ((omega arith, refl), (omega arith, refl), (omega arith, refl), (omega arith, refl)) Usual tt (take n m) r e in
       way-back r (k .one .0) (bare (r .number) (r .beside) (k .one .1) (k .fits))
   way-told (ended at next st) e = refl
 
-  pub found-back : foundIn (findingCells (foundBy reader m n)) ≡ foundBy reader m n
+  pub found-back : foundIn (findingCells (foundBy (reader Usual) m n)) ≡ foundBy (reader Usual) m n
   unfolding foundBy
   found-back =
-      let c = behind-three n _ _ _ (told-stands (map counted (shown reader [] 0 0 (take n m))) .all) in
-      let w = way-told (walk reader [] 0 0 (take n m)) refl in
+      let c = behind-three n _ _ _ (told-stands (map (counted (shapeIn Usual)) (shown (reader Usual) [] 0 0 (take n m))) .all) in
+      let w = way-told (walked (reader Usual) (take n m)) refl in
       λ i. record { limit = n; cells = c i; way = w i }
 
 -- ---- cells that tell one finding are the same, one by one

@@ -8,7 +8,8 @@ use Prim.Native.Nat.{ℕ, zero, suc, _<_, _≤_}
 use native.Mathlib.Omega.{arith}
 use lib.ListN.{take}
 use Rattle.nts.specs.Refusal.{nothing, Refused}
-use Rattle.walk.specs.Walk.{Outcome, stopped, ended, walk}
+use Rattle.layout.specs.declared.Profile.the-variants.{Usual}
+use Rattle.walk.specs.Walk.{Outcome, stopped, ended, walked}
 use Rattle.walk.specs.Judge as judge
 use Rattle.walk.specs.Found.{wayOf, placeOf}
 use Rattle.walk.specs.Finding.{Found, foundBy, sameFound, toldFinding}
@@ -26,25 +27,25 @@ use Rattle.deciding.proofs.Copying.{place-by}
 
 module _ (m : List ℕ) (n : ℕ) where
   -- its reason
-  pub reason-few : reasonCell (foundBy reader m n .way) ≤ 4
+  pub reason-few : reasonCell (foundBy (reader Usual) m n .way) ≤ 4
   unfolding foundBy
-  reason-few = go (walk reader [] 0 0 (take n m)) refl
+  reason-few = go (walked (reader Usual) (take n m)) refl
     where
-      go : (o : Outcome) → walk reader [] 0 0 (take n m) ≡ o → reasonCell (wayOf o) ≤ 4
-      go (stopped r) e = stop-numbered (λ k. k ≤ 4) (omega arith, omega arith, omega arith, omega arith) (take n m) r e .one
+      go : (o : Outcome) → walked (reader Usual) (take n m) ≡ o → reasonCell (wayOf o) ≤ 4
+      go (stopped r) e = stop-numbered (λ k. k ≤ 4) (omega arith, omega arith, omega arith, omega arith) Usual tt (take n m) r e .one
       go (ended at next st) e = omega arith
 
   -- its place ..
-  pub place-within : placeCell (foundBy reader m n .way) ≤ n
+  pub place-within : placeCell (foundBy (reader Usual) m n .way) ≤ n
   unfolding foundBy
-  place-within = go (walk reader [] 0 0 (take n m)) (stops-within reader m n)
+  place-within = go (walked (reader Usual) (take n m)) (stops-within (reader Usual) m n)
     where
       go : (o : Outcome) → placeOf o ≤ n → placeCell (wayOf o) ≤ n
       go (stopped r) h = h
       go (ended at next st) h = h
 
   -- .. as a finding in code tells it
-  pub finding-within : (f : Finding) → toldFinding f ≡ foundBy reader m n → f .place ≤ n
+  pub finding-within : (f : Finding) → toldFinding f ≡ foundBy (reader Usual) m n → f .place ≤ n
   finding-within f e =
       let p = ap (λ (x : Found). placeCell (x .way)) e in
       omega (arith, place-by (f .place) (f .stop), p, place-within)
@@ -58,18 +59,18 @@ reason-in place (suc n) = refl
 -- a reason above 4 is no walk's
 pub decided-none : (c m : List ℕ) (room : ℕ) → 4 < cell c 2 → decided (foundIn c) m room ≡ judge.refused (unplaced 9 nothing)
 unfolding decided
-decided-none c m room h = rw (found-other (foundBy reader m (cell c 0)) (foundIn c) other)
+decided-none c m room h = rw (found-other (foundBy (reader Usual) m (cell c 0)) (foundIn c) other)
   where
-    other : foundBy reader m (cell c 0) ≡ foundIn c → ⊥
+    other : foundBy (reader Usual) m (cell c 0) ≡ foundIn c → ⊥
     other e =
-        let p : reasonCell (foundBy reader m (cell c 0) .way) ≡ cell c 2 = ap (λ (x : Found). reasonCell (x .way)) e ∙ reason-in (cell c 1) (cell c 2) in
+        let p : reasonCell (foundBy (reader Usual) m (cell c 0) .way) ≡ cell c 2 = ap (λ (x : Found). reasonCell (x .way)) e ∙ reason-in (cell c 1) (cell c 2) in
         omega (arith, p, reason-few m (cell c 0))
 
 -- the place of a refusal
 pub decided-within : (f : Found) (m : List ℕ) (room : ℕ) (r : Refused) → refusedWith r ≡ toldBy m (decided f m room) → r .place ≤ f .limit
 unfolding decided
-decided-within f m room r e = go (sameFound (foundBy reader m (f .limit)) f) e
+decided-within f m room r e = go (sameFound (foundBy (reader Usual) m (f .limit)) f) e
   where
-    go : (b : Bool) → refusedWith r ≡ toldBy m (cond b (request m (f .limit) room) (judge.refused (unplaced 9 nothing))) → r .place ≤ f .limit
-    go true q = told-within m (f .limit) room r q
+    go : (b : Bool) → refusedWith r ≡ toldBy m (cond b (request Usual m (f .limit) room) (judge.refused (unplaced 9 nothing))) → r .place ≤ f .limit
+    go true q = told-within Usual m (f .limit) room r q
     go false q = let z : r ≡ unplaced 9 nothing = cc in omega (arith, ap (λ (x : Refused). x .place) z)

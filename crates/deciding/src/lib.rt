@@ -1,8 +1,9 @@
-// The two halves of reading a request, for a host in C or Rust: the walk, which tells what a message held, accepted or not, and the decision from that. A finding
-// is forty-eight cells of sixteen bits: the limit, the place and the reason of the stop (0 the end record, otherwise the refusal's number), and three of each kind from
-// 0 to 14, unknown ones together under 11: how many records, and start and length of the first one's body.
+// The two halves of reading a request in the usual profile, for a host in C or Rust: the walk, which tells what a message held, accepted or not, and the decision
+// from that. A finding is forty-eight cells of sixteen bits: the limit, the place and the reason of the stop (0 the end record, otherwise the refusal's number), and
+// three of each kind from 0 to 14, unknown ones together under 11: how many records, and start and length of the first one's body.
 use nts::NtsError;
 use nts::Refusal;
+use record::Profile;
 use request::Answer;
 use request::Request;
 use walk::Finding;
@@ -19,7 +20,7 @@ ghost use Rattle.deciding.specs.Given.{reasonCell, findingCells, wayIn, 
 // Walks over a message as if it were cut after `limit` bytes until its end record or the one refused by 1 to 4, and tells what it found. Refuses nothing.
 #[no_mangle]
 pub extern "C" fn ntske_walk_request(message: &[u8], limit: u16, finding: &mut [u16; 48]) -> u64
-    ensures { λ r. ⌜ Gives (cells (findingCells (foundBy reader (now (message .entry)) limit))) (now (finding .entry)) r (now (finding .exit)) ⌝ }
+    ensures { λ r. ⌜ Gives (cells (findingCells (foundBy (reader Profile.Usual) (now (message .entry)) limit))) (now (finding .entry)) r (now (finding .exit)) ⌝ }
 {
     *finding = finding_cells(Request::walk(message, limit));
     0

@@ -11,8 +11,11 @@ use Rattle.utf8.proofs.Tests.{never, on}
 use Rattle.wire.specs.Over.{over}
 use Rattle.wire.proofs.Over.{over-none}
 use Rattle.nts.specs.Refusal.{nothing, Refused}
+use Rattle.layout.specs.declared.Profile.{Profile}
+use Rattle.layout.specs.declared.Profile.the-variants.{Usual, Strict}
 use Rattle.walk.specs.Judge as judge
 use Rattle.walk.specs.Judge.{Terms, readBy}
+use Rattle.walk.proofs.Numbered.{Barred}
 use Rattle.request.specs.Request as requests
 use Rattle.request.proofs.Order.{room-alone}
 use Rattle.request.proofs.Numbered.{request-numbered}
@@ -24,9 +27,9 @@ use Rattle.reading.specs.Read.{requestGiven, replyGiven}
 use Rattle.cells.specs.Cells as given
 use Rattle.cells.specs.Cells.{word, unplaced, Given, cells, refuses, returned, cell}
 use Rattle.cells.proofs.Lent.{word-some, number-in}
-use Rattle.feeding.specs.Fed.{lineCells, isConnection, numberIn, lineIn, fedWord, fedCells, saysIn, Feeds}
+use Rattle.feeding.specs.Fed.{lineCells, isConnection, numberIn, profileIn, lineIn, fedWord, fedCells, saysIn, Feeds}
 use Rattle.feeding.proofs.Holding.{mark-numbered, standing-sound, standing-held, standing-numbered, line-sound, line-back, Refusing}
-use Rattle.feeding.proofs.Refusing.{Cause, broke, filled, kept, read, refused-by}
+use Rattle.feeding.proofs.Refusing.{Cause, broke, filled, late, kept, read, refused-by}
 
 -- ---- what is asked of a sort of read
 
@@ -36,9 +39,13 @@ pub record Host (X : Read) (f : X .Told → Given) : Type 0 where
   pub accept : (m : List ℕ) (q : _) → (k : List ℕ) × (f (X .tells m (judge.accepted q)) ≡ cells k)
   pub keep : (y : Refused) (t : List ℕ) → X .fills (judge.refused y) t ≡ t
 
--- H holds of the number of every refusal of the whole-message reader
-abbrev pub Numbers : Read → (ℕ → Type 0) → Type 0
-Numbers X H = (s : List ℕ) (n : ℕ) (x : Terms) (y : Refused) → readBy (X .reader) (X .judging) s (record { limit = n; terms = x }) ≡ judge.refused y → H (y .number)
+-- H holds of the number of every refusal of the whole-message reader in a profile
+abbrev pub Numbers : Read → Profile → (ℕ → Type 0) → Type 0
+Numbers X P H = (s : List ℕ) (n : ℕ) (x : Terms) (y : Refused) → readBy (X .reader) (X .judging) s (record { profile = P; limit = n; terms = x }) ≡ judge.refused y → H (y .number)
+
+-- .. and of 18, where it lets nothing follow an end record
+abbrev pub Ends : Read → Profile → (ℕ → Type 0) → Type 0
+Ends X P H = X .reader P .final ≡ true → H 18
 
 pub host-request : Host requestRead requestGiven
 unfolding requests.tableAfter
@@ -120,45 +127,52 @@ outcome {X} {f} host {c} {b} {h} {x} {t} {lent} {r} {c′} {b′} {t′} {after}
 
 -- ---- its number
 
--- H holds of 9 and 16, of the whole-message reader's numbers, and of the number that the cells hold, where they hold a refusal
-pub why-number : (H : ℕ → Type 0) {X : Read} {c : List ℕ} {y : Refused} → H 9 → H 16 → Numbers X H → (Refusing (cell c 4) (cell c 5) → H (numberIn (cell c 5))) → Why X c y → H (y .number)
-why-number H nine sixteen reads keeps (unheld e) = subst (λ (x : Refused). H (x .number)) e nine
-why-number H nine sixteen reads keeps (by i (broke e)) = subst (λ (x : Refused). H (x .number)) e nine
-why-number H nine sixteen reads keeps (by i (filled n l e)) = subst (λ (x : Refused). H (x .number)) e sixteen
-why-number H {X} {c} {y} nine sixteen reads keeps (by i (kept e)) =
+-- H holds of 9 and 16, of 18 where nothing may follow an end record, of the whole-message reader's numbers, and of the number that the cells hold, where they hold a refusal
+pub why-number : (H : ℕ → Type 0) {X : Read} {c : List ℕ} {y : Refused} → H 9 → H 16 → Ends X (profileIn (cell c 8)) H → Numbers X (profileIn (cell c 8)) H
+    → (Refusing (cell c 4) (cell c 5) → H (numberIn (cell c 5))) → Why X c y → H (y .number)
+why-number H nine sixteen eighteen reads keeps (unheld e) = subst (λ (x : Refused). H (x .number)) e nine
+why-number H nine sixteen eighteen reads keeps (by i (broke e)) = subst (λ (x : Refused). H (x .number)) e nine
+why-number H nine sixteen eighteen reads keeps (by i (filled n l e)) = subst (λ (x : Refused). H (x .number)) e sixteen
+why-number H nine sixteen eighteen reads keeps (by i (late f n l e)) = subst (λ (x : Refused). H (x .number)) e (eighteen f)
+why-number H {X} {c} {y} nine sixteen eighteen reads keeps (by i (kept e)) =
     let s = standing-sound (cell c 4) (cell c 5) (cell c 6) (cell c 7) (line-sound c i .standing) in
     subst (λ (x : Refused). H (x .number)) (standing-held (cell c 4) (cell c 5) (cell c 6) (cell c 7) y e) (keeps (standing-numbered (cell c 4) (cell c 5) (cell c 6) (cell c 7) y s e))
-why-number H nine sixteen reads keeps (by i (read s x e)) = reads s _ x _ e
+why-number H nine sixteen eighteen reads keeps (by i (read s x e)) = reads s _ x _ e
 
--- from 1 to 17: so a refusal's word is neither 0 nor 65,535
-abbrev pub Seventeenth : ℕ → Type 0
-Seventeenth n = (1 ≤ n) × (n ≤ 17)
+-- from 1 to 18: so a refusal's word is neither 0 nor 65,535
+abbrev pub Eighteenth : ℕ → Type 0
+Eighteenth n = (1 ≤ n) × (n ≤ 18)
 
-pub request-seventeenth : Numbers requestRead Seventeenth
-request-seventeenth s n x y e = request-numbered Seventeenth (omega arith) s n (x .room) y (sym (room-alone s (record { limit = n; terms = x })) ∙ e) .one
+pub barred-eighteenth : (P : Profile) → Barred Eighteenth P
+barred-eighteenth Usual = tt
+barred-eighteenth Strict = omega arith
 
-pub reply-seventeenth : Numbers replyRead Seventeenth
+pub request-eighteenth : (P : Profile) → Numbers requestRead P Eighteenth
+request-eighteenth P s n x y e =
+    request-numbered Eighteenth (omega arith) P (barred-eighteenth P) s n (x .room) y (sym (room-alone s (record { profile = P; limit = n; terms = x })) ∙ e) .one
+
+pub reply-eighteenth : (P : Profile) → Numbers replyRead P Eighteenth
 unfolding replies.replyOf
-reply-seventeenth s n x y e = reply-numbered Seventeenth (omega arith) s n x y e .one
+reply-eighteenth P s n x y e = reply-numbered Eighteenth (omega arith) P (barred-eighteenth P) s n x y e .one
 
-pub why-seventeenth : {X : Read} {c : List ℕ} {y : Refused} → Numbers X Seventeenth → Why X c y → Seventeenth (y .number)
-why-seventeenth reads w = why-number Seventeenth (omega arith) (omega arith) reads (λ k. mark-numbered _ (k .mark)) w
+pub why-eighteenth : {X : Read} {c : List ℕ} {y : Refused} → ((P : Profile) → Numbers X P Eighteenth) → Why X c y → Eighteenth (y .number)
+why-eighteenth {c = c} reads w = why-number Eighteenth (omega arith) (omega arith) (λ f. omega arith) (reads (profileIn (cell c 8))) (λ k. mark-numbered _ (k .mark)) w
 
-pub word-waits : (y : Refused) → y .number ≤ 17 → word y ≡ 65535 → ⊥
+pub word-waits : (y : Refused) → y .number ≤ 18 → word y ≡ 65535 → ⊥
 word-waits y l e = omega (arith, number-in y (omega arith))
 
 -- ---- by the word
 
 -- of every call with these numbers
-module _ {X : Read} {f : X .Told → Given} (host : Host X f) (small : Numbers X Seventeenth) {c b : List ℕ} {h : Brought} {x : Terms} {t lent : List ℕ} {r : ℕ} {c′ b′ t′ after : List ℕ} (p : Feeds X f c b h x t lent r c′ b′ t′ after) where
+module _ {X : Read} {f : X .Told → Given} (host : Host X f) (small : (P : Profile) → Numbers X P Eighteenth) {c b : List ℕ} {h : Brought} {x : Terms} {t lent : List ℕ} {r : ℕ} {c′ b′ t′ after : List ℕ} (p : Feeds X f c b h x t lent r c′ b′ t′ after) where
   -- not 0: table and cells are as they were; and if it is not 65,535 either, H holds of its number
-  pub fed-refuses : (H : ℕ → Type 0) → H 9 → H 16 → Numbers X H → (Refusing (cell c 4) (cell c 5) → H (numberIn (cell c 5))) → (r ≡ 0 → ⊥)
+  pub fed-refuses : (H : ℕ → Type 0) → H 9 → H 16 → Ends X (profileIn (cell c 8)) H → Numbers X (profileIn (cell c 8)) H → (Refusing (cell c 4) (cell c 5) → H (numberIn (cell c 5))) → (r ≡ 0 → ⊥)
       → (t′ ≡ t) × (after ≡ lent) × ((r ≡ 65535 → ⊥) → H (r % 256))
-  fed-refuses H nine sixteen reads keeps some = go (outcome host p)
+  fed-refuses H nine sixteen eighteen reads keeps some = go (outcome host p)
     where
       go : Outcome X f c b h x t lent r t′ after → (t′ ≡ t) × (after ≡ lent) × ((r ≡ 65535 → ⊥) → H (r % 256))
       go (waits i s e u v) = (u, v, λ n. absurd (n e))
-      go (refusing y w e u v) = (u, v, λ n. rw (e, number-in y (omega (arith, why-seventeenth small w .1))) (why-number H nine sixteen reads keeps w))
+      go (refusing y w e u v) = (u, v, λ n. rw (e, number-in y (omega (arith, why-eighteenth small w .1))) (why-number H nine sixteen eighteen reads keeps w))
       go (accepting a i s k e) = absurd (some e)
 
   -- 65,535: the cells hold a connection, and its read waits
@@ -167,7 +181,7 @@ module _ {X : Read} {f : X .Told → Given} (host : Host X f) (small : Numbers X
     where
       go : Outcome X f c b h x t lent r t′ after → (isConnection c ≡ true) × (saysIn X (lineIn c) b h x ≡ nothingYet)
       go (waits i s e u v) = (i, s)
-      go (refusing y w e u v) = absurd (word-waits y (why-seventeenth small w .1) (sym e ∙ z))
+      go (refusing y w e u v) = absurd (word-waits y (why-eighteenth small w .1) (sym e ∙ z))
       go (accepting a i s k e) = let x : _≡_ {A = ℕ} 0 65535 = sym e ∙ z in absurd (omega arith)
 
   -- 0: its read is accepted, and the cells are what is given for it
@@ -176,7 +190,7 @@ module _ {X : Read} {f : X .Told → Given} (host : Host X f) (small : Numbers X
     where
       go : Outcome X f c b h x t lent r t′ after → (isConnection c ≡ true) × (a : X .Told) × (saysIn X (lineIn c) b h x ≡ says a) × (f a ≡ cells after)
       go (waits i s e u v) = let x : _≡_ {A = ℕ} 65535 0 = sym e ∙ z in absurd (omega arith)
-      go (refusing y w e u v) = absurd (word-some y (why-seventeenth small w .0) (sym e ∙ z))
+      go (refusing y w e u v) = absurd (word-some y (why-eighteenth small w .0) (sym e ∙ z))
       go (accepting a i s k e) = (i, a, s, k)
 
 -- ---- once there is an answer
@@ -195,7 +209,7 @@ table-unmoved X c b h x t e = rw e
 
 -- a connection that has one, or that counts too many bytes, stays as it is, cell by cell, and so do buffer and table; and so do cells that hold none
 pub fed-again : {X : Read} {f : X .Told → Given} {c b : List ℕ} {h : Brought} {x : Terms} {t lent : List ℕ} {r : ℕ} {c′ b′ t′ after : List ℕ} → Feeds X f c b h x t lent r c′ b′ t′ after
-    → length c ≡ 8 → isPending (lineIn c) b ≡ false → (c′ ≡ c) × (b′ ≡ b) × (t′ ≡ t)
+    → length c ≡ 9 → isPending (lineIn c) b ≡ false → (c′ ≡ c) × (b′ ≡ b) × (t′ ≡ t)
 fed-again {X} {f} {c} {b} {h} {x} {t} p l e =
     on (isConnection c)
     (λ i. (

@@ -2,7 +2,7 @@
 -- Assumes nothing.
 use mathlib.Core.Path.{_≡_, refl, sym, ap, subst, _∙_}
 use mathlib.Core.Bool.{Bool, true, false, cond, _&&_, _||_}
-use mathlib.Core.List.{List, [], _∷_}
+use mathlib.Core.List.{List, [], _∷_, _++_}
 use Prim.Native.Nat.{ℕ, _≤_, _<_}
 use native.Mathlib.Omega.{arith}
 use borrow.Author.Tests.{ltb-true, ltb-false, leb-true, eqb-true}
@@ -12,17 +12,17 @@ use Rattle.utf8.proofs.Tests.{never, upto, and-left, and-right}
 use Rattle.nts.specs.Refusal.{besideNumber, Refused, toldRefusal, errorIn}
 use Rattle.cells.specs.Cells.{marked, cell}
 use Rattle.pieces.specs.Pieces.{Line, Standing, pending, accepted, refused}
-use Rattle.feeding.specs.Fed.{standingCells, lineCells, hasBeside, noProtocol, noAlgorithm, isMark, isStanding, isConnection, numberIn, besideIn, standingIn, lineIn}
+use Rattle.feeding.specs.Fed.{standingCells, profileCell, lineCells, hasBeside, noProtocol, noAlgorithm, isMark, isStanding, isConnection, numberIn, besideIn, standingIn, profileIn, lineIn}
 use Rattle.feeding.specs.Code.{KeptLine, noLine, line, keptIn}
 
 -- ---- a refusal's number, with what was not offered
 
--- what holds of each of the eighteen holds of every one
+-- what holds of each of the nineteen holds of every one
 pub of-each : (P : ℕ → Type 0) → P 1 → P 2 → P 3 → P 4 → P 5 → P 6 → P 7 → P 8 → P 9 → P 10 → P 11 → P 12 → P 13 → P 14 → P 15 → P 16
-    → P noProtocol → P noAlgorithm → (n : ℕ) → isMark n ≡ true → P n
+    → P 18 → P noProtocol → P noAlgorithm → (n : ℕ) → isMark n ≡ true → P n
 unfolding isMark
-of-each P p1 p2 p3 p4 p5 p6 p7 p8 p9 p10 p11 p12 p13 p14 p15 p16 p273 p529 n m =
-    go (leb 1 n) (leb n 16) (eqb n noProtocol) (eqb n noAlgorithm) (leb-true 1 n) (leb-true n 16) (eqb-true n noProtocol) (eqb-true n noAlgorithm) m
+of-each P p1 p2 p3 p4 p5 p6 p7 p8 p9 p10 p11 p12 p13 p14 p15 p16 p18 p273 p529 n m =
+    go (leb 1 n) (leb n 16) (eqb n 18) (eqb n noProtocol) (eqb n noAlgorithm) (leb-true 1 n) (leb-true n 16) (eqb-true n 18) (eqb-true n noProtocol) (eqb-true n noAlgorithm) m
   where
     is : (k : ℕ) → P k → k ≤ n → n ≤ k → P n
     is k p l g = let e : k ≡ n = omega arith in subst P e p
@@ -36,30 +36,32 @@ of-each P p1 p2 p3 p4 p5 p6 p7 p8 p9 p10 p11 p12 p13 p14 p15 p16 p273 p529 n m =
         (λ l. or 7 p7 (omega arith) (λ l. or 8 p8 (omega arith) (λ l. or 9 p9 (omega arith) (λ l. or 10 p10 (omega arith) (λ l. or 11 p11 (omega arith)
         (λ l. or 12 p12 (omega arith) (λ l. or 13 p13 (omega arith) (λ l. or 14 p14 (omega arith) (λ l. or 15 p15 (omega arith) (λ l. is 16 p16 (omega arith) high)))))))))))))))
 
-    go : (a b c d : Bool) → (a ≡ true → 1 ≤ n) → (b ≡ true → n ≤ 16) → (c ≡ true → n ≡ noProtocol) → (d ≡ true → n ≡ noAlgorithm) → ((a && b) || c || d) ≡ true → P n
-    go a b c true fa fb fc fd q = subst P (sym (fd refl)) p529
-    go a b true false fa fb fc fd q = subst P (sym (fc refl)) p273
-    go true true false false fa fb fc fd q = few (fa refl) (fb refl)
-    go true false false false fa fb fc fd q = never q
-    go false b false false fa fb fc fd q = never q
+    go : (a b e c d : Bool) → (a ≡ true → 1 ≤ n) → (b ≡ true → n ≤ 16) → (e ≡ true → n ≡ 18) → (c ≡ true → n ≡ noProtocol) → (d ≡ true → n ≡ noAlgorithm)
+        → ((a && b) || e || c || d) ≡ true → P n
+    go a b e c true fa fb fe fc fd q = subst P (sym (fd refl)) p529
+    go a b e true false fa fb fe fc fd q = subst P (sym (fc refl)) p273
+    go a b true false false fa fb fe fc fd q = subst P (sym (fe refl)) p18
+    go true true false false false fa fb fe fc fd q = few (fa refl) (fb refl)
+    go true false false false false fa fb fe fc fd q = never q
+    go false b false false false fa fb fe fc fd q = never q
 
 mark-few : (n : ℕ) → isMark n ≡ true → n ≤ noAlgorithm
-mark-few = of-each (λ k. k ≤ noAlgorithm) (omega arith) (omega arith) (omega arith) (omega arith) (omega arith) (omega arith) (omega arith) (omega arith) (omega arith) (omega arith) (omega arith) (omega arith) (omega arith) (omega arith) (omega arith) (omega arith) (omega arith) (omega arith)
+mark-few = of-each (λ k. k ≤ noAlgorithm) (omega arith) (omega arith) (omega arith) (omega arith) (omega arith) (omega arith) (omega arith) (omega arith) (omega arith) (omega arith) (omega arith) (omega arith) (omega arith) (omega arith) (omega arith) (omega arith) (omega arith) (omega arith) (omega arith)
 
-pub mark-numbered : (n : ℕ) → isMark n ≡ true → (1 ≤ numberIn n) × (numberIn n ≤ 17)
-mark-numbered = of-each (λ k. (1 ≤ numberIn k) × (numberIn k ≤ 17)) (omega arith) (omega arith) (omega arith) (omega arith) (omega arith) (omega arith) (omega arith) (omega arith) (omega arith) (omega arith) (omega arith) (omega arith) (omega arith) (omega arith) (omega arith) (omega arith) (omega arith) (omega arith)
+pub mark-numbered : (n : ℕ) → isMark n ≡ true → (1 ≤ numberIn n) × (numberIn n ≤ 18)
+mark-numbered = of-each (λ k. (1 ≤ numberIn k) × (numberIn k ≤ 18)) (omega arith) (omega arith) (omega arith) (omega arith) (omega arith) (omega arith) (omega arith) (omega arith) (omega arith) (omega arith) (omega arith) (omega arith) (omega arith) (omega arith) (omega arith) (omega arith) (omega arith) (omega arith) (omega arith)
 
 -- the refusal that has such a number tells it, with what is beside it
 error-told : (n x p : ℕ) → isMark n ≡ true → toldRefusal (record { error = errorIn (numberIn n) (besideIn n x); place = p }) ≡ record { number = numberIn n; beside = besideIn n x; place = p }
 unfolding errorIn hasBeside
 error-told n x p =
     of-each (λ k. toldRefusal (record { error = errorIn (numberIn k) (besideIn k x); place = p }) ≡ record { number = numberIn k; beside = besideIn k x; place = p })
-    refl refl refl refl refl refl refl refl refl refl refl refl refl refl refl refl refl refl n
+    refl refl refl refl refl refl refl refl refl refl refl refl refl refl refl refl refl refl refl n
 
 -- and both are put again as they were
 mark-back : (n x : ℕ) → isMark n ≡ true → marked (numberIn n) (besideIn n x) ≡ n
 unfolding hasBeside
-mark-back n x = of-each (λ k. marked (numberIn k) (besideIn k x) ≡ k) refl refl refl refl refl refl refl refl refl refl refl refl refl refl refl refl refl refl n
+mark-back n x = of-each (λ k. marked (numberIn k) (besideIn k x) ≡ k) refl refl refl refl refl refl refl refl refl refl refl refl refl refl refl refl refl refl refl n
 
 -- .. a number beside it only where it has one
 abbrev pub Besides : ℕ → ℕ → Type 0
@@ -67,7 +69,7 @@ Besides n x = (eqb x 0 || hasBeside n || leb noProtocol n) ≡ true
 
 beside-back : (n x : ℕ) → isMark n ≡ true → Besides n x → besideNumber (besideIn n x) ≡ x
 unfolding hasBeside
-beside-back n x = of-each (λ k. Besides k x → besideNumber (besideIn k x) ≡ x) none none none none some none none none none none some some none none none none some some n
+beside-back n x = of-each (λ k. Besides k x → besideNumber (besideIn k x) ≡ x) none none none none some none none none none none some some none none none none none some some n
   where
     go : (t : Bool) → eqb x 0 ≡ t → (t || false || false) ≡ true → 0 ≡ x
     go true e q = sym (eqb-true x 0 e)
@@ -144,7 +146,7 @@ standing-numbered s n x p r t e =
     unheld : (a : Standing) → a ≡ refused r → (a ≡ refused r → ⊥) → ⊥
     unheld a q f = f q
 
--- ---- the eight cells
+-- ---- the nine cells
 
 pub record SoundLine (c : List ℕ) : Type 0 where
   pub limit : cell c 0 ≤ 65535
@@ -153,38 +155,50 @@ pub record SoundLine (c : List ℕ) : Type 0 where
   pub number : cell c 5 ≤ noAlgorithm
   pub beside : cell c 6 ≤ 65535
   pub place : cell c 7 ≤ 4294967295
+  pub profile : cell c 8 ≤ 1
 
 pub line-sound : (c : List ℕ) → isConnection c ≡ true → SoundLine c
 unfolding isConnection
-line-sound c e = of (leb (cell c 0) 65535) (leb (cell c 3) 65535) (isStanding (cell c 4) (cell c 5) (cell c 6) (cell c 7)) (leb-true (cell c 0) 65535) (leb-true (cell c 3) 65535) (λ z. z) e
+line-sound c e =
+    of (leb (cell c 0) 65535) (leb (cell c 3) 65535) (isStanding (cell c 4) (cell c 5) (cell c 6) (cell c 7)) (leb (cell c 8) 1)
+    (leb-true (cell c 0) 65535) (leb-true (cell c 3) 65535) (λ z. z) (leb-true (cell c 8) 1) e
   where
-    with-standing : cell c 0 ≤ 65535 → cell c 3 ≤ 65535 → isStanding (cell c 4) (cell c 5) (cell c 6) (cell c 7) ≡ true → Sound (cell c 4) (cell c 5) (cell c 6) (cell c 7) → SoundLine c
-    with-standing l m t (unrefused g a b o) = record { limit = l; met = m; standing = t; number = omega arith; beside = omega arith; place = omega arith }
-    with-standing l m t (refusing g k w b o) = record { limit = l; met = m; standing = t; number = mark-few (cell c 5) k; beside = w; place = o }
+    with-standing : cell c 0 ≤ 65535 → cell c 3 ≤ 65535 → isStanding (cell c 4) (cell c 5) (cell c 6) (cell c 7) ≡ true → cell c 8 ≤ 1 → Sound (cell c 4) (cell c 5) (cell c 6) (cell c 7) → SoundLine c
+    with-standing l m t p (unrefused g a b o) = record { limit = l; met = m; standing = t; number = omega arith; beside = omega arith; place = omega arith; profile = p }
+    with-standing l m t p (refusing g k w b o) = record { limit = l; met = m; standing = t; number = mark-few (cell c 5) k; beside = w; place = o; profile = p }
 
-    of : (a b t : Bool) → (a ≡ true → cell c 0 ≤ 65535) → (b ≡ true → cell c 3 ≤ 65535) → (t ≡ true → isStanding (cell c 4) (cell c 5) (cell c 6) (cell c 7) ≡ true) → (a && b && t) ≡ true → SoundLine c
-    of a b t f g h q =
-        let i = and-left (a && b) t q in
-        let z = h (and-right (a && b) t q) in
-        with-standing (f (and-left a b i)) (g (and-right a b i)) z (standing-sound (cell c 4) (cell c 5) (cell c 6) (cell c 7) z)
+    of : (a b t d : Bool) → (a ≡ true → cell c 0 ≤ 65535) → (b ≡ true → cell c 3 ≤ 65535) → (t ≡ true → isStanding (cell c 4) (cell c 5) (cell c 6) (cell c 7) ≡ true) → (d ≡ true → cell c 8 ≤ 1)
+        → (a && b && t && d) ≡ true → SoundLine c
+    of a b t d f g h k q =
+        let j = and-left (a && b && t) d q in
+        let i = and-left (a && b) t j in
+        let z = h (and-right (a && b) t j) in
+        with-standing (f (and-left a b i)) (g (and-right a b i)) z (k (and-right (a && b && t) d q)) (standing-sound (cell c 4) (cell c 5) (cell c 6) (cell c 7) z)
 
-eight : (c : List ℕ) → length c ≡ 8 → cell c 0 ∷ cell c 1 ∷ cell c 2 ∷ cell c 3 ∷ cell c 4 ∷ cell c 5 ∷ cell c 6 ∷ cell c 7 ∷ [] ≡ c
-eight [] e = absurd (omega arith)
-eight (c0 ∷ []) e = absurd (omega arith)
-eight (c0 ∷ c1 ∷ []) e = absurd (omega arith)
-eight (c0 ∷ c1 ∷ c2 ∷ []) e = absurd (omega arith)
-eight (c0 ∷ c1 ∷ c2 ∷ c3 ∷ []) e = absurd (omega arith)
-eight (c0 ∷ c1 ∷ c2 ∷ c3 ∷ c4 ∷ []) e = absurd (omega arith)
-eight (c0 ∷ c1 ∷ c2 ∷ c3 ∷ c4 ∷ c5 ∷ []) e = absurd (omega arith)
-eight (c0 ∷ c1 ∷ c2 ∷ c3 ∷ c4 ∷ c5 ∷ c6 ∷ []) e = absurd (omega arith)
-eight (c0 ∷ c1 ∷ c2 ∷ c3 ∷ c4 ∷ c5 ∷ c6 ∷ c7 ∷ []) e = refl
-eight (c0 ∷ c1 ∷ c2 ∷ c3 ∷ c4 ∷ c5 ∷ c6 ∷ c7 ∷ c8 ∷ c) e = absurd (omega arith)
+profile-back : (p : ℕ) → p ≤ 1 → profileCell (profileIn p) ≡ p
+profile-back p l = upto 0 p (λ g. let e : p ≡ 0 = omega arith in rw e) (λ g. let e : p ≡ 1 = omega arith in rw e)
+
+nine : (c : List ℕ) → length c ≡ 9 → cell c 0 ∷ cell c 1 ∷ cell c 2 ∷ cell c 3 ∷ cell c 4 ∷ cell c 5 ∷ cell c 6 ∷ cell c 7 ∷ cell c 8 ∷ [] ≡ c
+nine [] e = absurd (omega arith)
+nine (c0 ∷ []) e = absurd (omega arith)
+nine (c0 ∷ c1 ∷ []) e = absurd (omega arith)
+nine (c0 ∷ c1 ∷ c2 ∷ []) e = absurd (omega arith)
+nine (c0 ∷ c1 ∷ c2 ∷ c3 ∷ []) e = absurd (omega arith)
+nine (c0 ∷ c1 ∷ c2 ∷ c3 ∷ c4 ∷ []) e = absurd (omega arith)
+nine (c0 ∷ c1 ∷ c2 ∷ c3 ∷ c4 ∷ c5 ∷ []) e = absurd (omega arith)
+nine (c0 ∷ c1 ∷ c2 ∷ c3 ∷ c4 ∷ c5 ∷ c6 ∷ []) e = absurd (omega arith)
+nine (c0 ∷ c1 ∷ c2 ∷ c3 ∷ c4 ∷ c5 ∷ c6 ∷ c7 ∷ []) e = absurd (omega arith)
+nine (c0 ∷ c1 ∷ c2 ∷ c3 ∷ c4 ∷ c5 ∷ c6 ∷ c7 ∷ c8 ∷ []) e = refl
+nine (c0 ∷ c1 ∷ c2 ∷ c3 ∷ c4 ∷ c5 ∷ c6 ∷ c7 ∷ c8 ∷ c9 ∷ c) e = absurd (omega arith)
 
 -- a connection that was not changed is put again as the cells that held it
-pub line-back : (c : List ℕ) → length c ≡ 8 → isConnection c ≡ true → lineCells (lineIn c) ≡ c
+pub line-back : (c : List ℕ) → length c ≡ 9 → isConnection c ≡ true → lineCells (lineIn c) ≡ c
 line-back c l e =
-    ap (λ t. cell c 0 ∷ cell c 1 ∷ cell c 2 ∷ cell c 3 ∷ t) (standing-back (cell c 4) (cell c 5) (cell c 6) (cell c 7) (standing-sound (cell c 4) (cell c 5) (cell c 6) (cell c 7) (line-sound c e .standing)))
-    ∙ eight c l
+    let k = line-sound c e in
+    (λ j. cell c 0 ∷ cell c 1 ∷ cell c 2 ∷ cell c 3
+    ∷ standing-back (cell c 4) (cell c 5) (cell c 6) (cell c 7) (standing-sound (cell c 4) (cell c 5) (cell c 6) (cell c 7) (k .standing)) j
+    ++ (profile-back (cell c 8) (k .profile) j ∷ []))
+    ∙ nine c l
 
 -- ---- whether they hold one
 

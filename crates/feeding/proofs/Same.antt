@@ -6,6 +6,7 @@ use denote.Ref.{now}
 use Rattle.cells.proofs.Lent.{gives-same}
 use Rattle.feeding.proofs.Feeding.{feeds-same}
 use Rattle.feeding.proofs.ntske_connection_new.Reads as connection-new
+use Rattle.feeding.proofs.ntske_connection_new_strict.Reads as connection-new-strict
 use Rattle.feeding.proofs.ntske_feed_request.Reads as feed-request
 use Rattle.feeding.proofs.ntske_close_request.Reads as close-request
 use Rattle.feeding.proofs.ntske_feed_reply.Reads as feed-reply
@@ -13,6 +14,9 @@ use Rattle.feeding.proofs.ntske_close_reply.Reads as close-reply
 
 pub ntske-connection-new-same : (κs : _) (a : _) (r r′ : _) (e e′ : _) → connection-new.Learnt κs a r e → connection-new.Learnt κs a r′ e′ → (r ≡ r′) × (now (e .1 .0) ≡ now (e′ .1 .0))
 ntske-connection-new-same κs a r r′ e e′ p q = gives-same p q
+
+pub ntske-connection-new-strict-same : (κs : _) (a : _) (r r′ : _) (e e′ : _) → connection-new-strict.Learnt κs a r e → connection-new-strict.Learnt κs a r′ e′ → (r ≡ r′) × (now (e .1 .0) ≡ now (e′ .1 .0))
+ntske-connection-new-strict-same κs a r r′ e e′ p q = gives-same p q
 
 pub ntske-feed-request-same : (κs : _) (a : _) (r r′ : _) (e e′ : _) → feed-request.Learnt κs a r e → feed-request.Learnt κs a r′ e′ → (r ≡ r′) × (now (e .0) ≡ now (e′ .0)) × (now (e .1 .1 .0) ≡ now (e′ .1 .1 .0)) × (now (e .1 .1 .1 .0) ≡ now (e′ .1 .1 .1 .0)) × (now (e .1 .1 .1 .1 .0) ≡ now (e′ .1 .1 .1 .1 .0))
 ntske-feed-request-same κs a r r′ e e′ p q = feeds-same p q

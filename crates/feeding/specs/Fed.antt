@@ -1,10 +1,12 @@
--- A read that is fed in pieces, for a host that keeps its connection as eight cells: 02, order 1. Cells that hold no connection are 9.
+-- A read that is fed in pieces, for a host that keeps its connection as nine cells: 02, orders 1 and 5. Cells that hold no connection are 9.
 use Prim.Native.Nat.{ℕ}
 use mathlib.Core.Path.{_≡_}
-use mathlib.Core.List.{List, [], _∷_}
+use mathlib.Core.List.{List, [], _∷_, _++_}
 use mathlib.Core.Bool.{Bool, cond, _&&_, _||_}
 use lib.Dec.{leb, ltb, eqb}
 use Rattle.nts.specs.Refusal.{Beside, nothing, code, protocol, algorithm, besideNumber, Refused}
+use Rattle.layout.specs.declared.Profile.{Profile}
+use Rattle.layout.specs.declared.Profile.the-variants.{Usual, Strict}
 use Rattle.walk.specs.Judge.{Terms}
 use Rattle.pieces.specs.Pieces as pieces
 use Rattle.pieces.specs.Pieces.{Standing, pending, accepted, refused, Line, Brought, Read, Says, nothingYet, says, saysOf, held, answerOf, lineAfter, bufferAfter, tableAfter}
@@ -20,13 +22,18 @@ standingCells pending = 0 ∷ 0 ∷ 0 ∷ 0 ∷ []
 standingCells accepted = 1 ∷ 0 ∷ 0 ∷ 0 ∷ []
 standingCells (refused r) = 2 ∷ marked (r .number) (r .beside) ∷ besideNumber (r .beside) ∷ r .place ∷ []
 
--- before that the limit, the bytes gathered, where the record that is being gathered begins, and the kinds met
+-- 0 for the usual profile, and 1 for the strict one
+abbrev pub profileCell : Profile → ℕ
+profileCell Usual = 0
+profileCell Strict = 1
+
+-- before that the limit, the bytes gathered, where the record that is being gathered begins, and the kinds met; behind it the profile
 abbrev pub lineCells : Line → List ℕ
-lineCells c = c .limit ∷ c .gathered ∷ c .begins ∷ c .met ∷ standingCells (c .standing)
+lineCells c = c .limit ∷ c .gathered ∷ c .begins ∷ c .met ∷ standingCells (c .standing) ++ (profileCell (c .profile) ∷ [])
 
 -- ---- the connection that cells hold
 
--- of 1 to 16, these have a number beside them; both of 17 have one as well
+-- of 1 to 16 and 18, these have a number beside them; both of 17 have one as well
 unfoldable pub hasBeside : ℕ → Bool
 hasBeside n = eqb n 5 || eqb n 11 || eqb n 12
 
@@ -38,7 +45,7 @@ abbrev pub noAlgorithm : ℕ
 noAlgorithm = 529
 
 unfoldable pub isMark : ℕ → Bool
-isMark n = (leb 1 n && leb n 16) || eqb n noProtocol || eqb n noAlgorithm
+isMark n = (leb 1 n && leb n 16) || eqb n 18 || eqb n noProtocol || eqb n noAlgorithm
 
 -- what was refused has such a number, one of sixteen bits beside it if it has any, and a place of thirty-two; what was not has none of them
 unfoldable pub isStanding : ℕ → ℕ → ℕ → ℕ → Bool
@@ -47,9 +54,9 @@ isStanding s n x p =
     (eqb n 0 && eqb x 0 && eqb p 0)
     (eqb s 2 && isMark n && leb x 65535 && (eqb x 0 || hasBeside n || leb noProtocol n) && leb p 4294967295)
 
--- sixteen bits for the limit and for the kinds met
+-- sixteen bits for the limit and for the kinds met, and one of the two profiles
 unfoldable pub isConnection : List ℕ → Bool
-isConnection c = leb (cell c 0) 65535 && leb (cell c 3) 65535 && isStanding (cell c 4) (cell c 5) (cell c 6) (cell c 7)
+isConnection c = leb (cell c 0) 65535 && leb (cell c 3) 65535 && isStanding (cell c 4) (cell c 5) (cell c 6) (cell c 7) && leb (cell c 8) 1
 
 -- the number, and what is beside it
 abbrev pub numberIn : ℕ → ℕ
@@ -61,8 +68,11 @@ besideIn n x = cond (eqb n noProtocol) (protocol x) (cond (eqb n noAlgorithm) (a
 abbrev pub standingIn : ℕ → ℕ → ℕ → ℕ → Standing
 standingIn s n x p = cond (eqb s 0) pending (cond (eqb s 1) accepted (refused (record { number = numberIn n; beside = besideIn n x; place = p })))
 
+abbrev pub profileIn : ℕ → Profile
+profileIn p = cond (eqb p 0) Usual Strict
+
 abbrev pub lineIn : List ℕ → Line
-lineIn c = record { limit = cell c 0; gathered = cell c 1; begins = cell c 2; met = cell c 3; standing = standingIn (cell c 4) (cell c 5) (cell c 6) (cell c 7) }
+lineIn c = record { profile = profileIn (cell c 8); limit = cell c 0; gathered = cell c 1; begins = cell c 2; met = cell c 3; standing = standingIn (cell c 4) (cell c 5) (cell c 6) (cell c 7) }
 
 -- ---- what a call tells
 

@@ -46,4 +46,4 @@ keyGiven n unknown = refuses (unplaced 5 (code n))
 -- ---- the version: 1 in the third byte from the right for 1.x.y, x in the second, y in the first
 
 abbrev pub version : ℕ
-version = 0x000400
+version = 0x000500

@@ -17,7 +17,7 @@ ghost use Rattle.cells.specs.Cells.{cells, Gives};
 ghost use Rattle.handing.specs.Handed.{partCells, entryCells, numberCells, choiceGiven, protocolGiven, keyGiven, version};
 
 // The library's version: 1 in the third byte from the right for 1.x.y, x in the second, y in the first.
-const VERSION: u64 = 0x000400;
+const VERSION: u64 = 0x000500;
 
 // A part of a message as it is handed out. Answer, two cells: its start and length, 0 and 0 where it is not inside the message.
 #[no_mangle]

@@ -1,4 +1,5 @@
 pub mod Table
+pub mod Profiles
 pub mod Writing
 pub mod Apart
 pub mod Same

@@ -6,6 +6,9 @@ use Rattle.wire.proofs.Bytes.{part-of-same}
 use Rattle.wire.proofs.Over.{tried-same}
 use Rattle.layout.proofs.Apart.{count-apart, wrote-same}
 use Rattle.layout.proofs.Part.of.Reads as of
+use Rattle.layout.proofs.Profile.taken.Reads as taken
+use Rattle.layout.proofs.Profile.allows.Reads as allows
+use Rattle.layout.proofs.Profile.is_final.Reads as is-final
 use Rattle.layout.proofs.Layout.write.Reads as write
 use Rattle.layout.proofs.Layout.length.Reads as length
 use Rattle.layout.proofs.put_header.Reads as put-header
@@ -22,3 +25,12 @@ Layout-write-same κs a r r′ e e′ p q = wrote-same p q
 
 pub put-header-same : (κs : _) (a : _) (r r′ : _) (e e′ : _) → put-header.Learnt κs a r e → put-header.Learnt κs a r′ e′ → (r ≡ r′) × (now (e .1 .1 .0) ≡ now (e′ .1 .1 .0))
 put-header-same κs a r r′ e e′ p q = tried-same p q
+
+pub Profile-taken-same : (κs : _) (a : _) (r r′ : _) (e e′ : _) → taken.Learnt κs a r e → taken.Learnt κs a r′ e′ → r ≡ r′
+Profile-taken-same κs a r r′ e e′ p q = p ∙ sym q
+
+pub Profile-allows-same : (κs : _) (a : _) (r r′ : _) (e e′ : _) → allows.Learnt κs a r e → allows.Learnt κs a r′ e′ → r ≡ r′
+Profile-allows-same κs a r r′ e e′ p q = p ∙ sym q
+
+pub Profile-is-final-same : (κs : _) (a : _) (r r′ : _) (e e′ : _) → is-final.Learnt κs a r e → is-final.Learnt κs a r′ e′ → r ≡ r′
+Profile-is-final-same κs a r r′ e e′ p q = p ∙ sym q

@@ -4,9 +4,10 @@ ghost use mathlib.Core.Path.{_≡_};
 ghost use mathlib.Core.Bool.{true};
 ghost use Prim.Native.Nat.{_+_, _<_, _≤_, _^_};
 ghost use lib.ListN.{length};
-ghost use Rattle.wire.specs.Bytes.{PartOf};
+ghost use Rattle.wire.specs.Bytes.{PartOf, partAt};
 ghost use Rattle.wire.specs.Over.{Put, Tried};
 ghost use Rattle.layout.specs.Table.{isUnknown};
+ghost use Rattle.layout.specs.Profile.{asksOf, isFinal, allows, takenAs};
 ghost use Rattle.layout.specs.Write.{isInside, isSound, isRecord, isNumber, bodySize, bodyOf, wordOf, header, recordBytes, measured, written, toldCount, Wrote};
 
 // Some bytes of a lent message: where they start in it, and how many there are.
@@ -38,6 +39,64 @@ pub enum Bit {
 pub struct Row {
     pub body: Shape,
     pub bit: Bit,
+}
+
+// How a message is read: as document 01 has it, or as RFC 8915 alone allows. The strict profile knows kinds 0 to 7 and asks for the critical bit of kinds 0 to 3, an
+// end record without a body, a server's name in ASCII, and that nothing follows the end record.
+pub enum Profile {
+    Usual,
+    Strict,
+}
+
+impl Profile {
+    // The kind as which a record is taken: one that the profile does not know as the unknown kind that has no name.
+    pub fn taken(self, kind: u16) -> u16
+        ensures { λ r. ⌜ r ≡ takenAs self kind ⌝ }
+    {
+        match self {
+            Profile::Usual => kind,
+            Profile::Strict => {
+                if Layout::LAST_OF_RFC < kind {
+                    return Layout::KIND_WITHOUT_NAME;
+                }
+                kind
+            }
+        }
+    }
+
+    // Whether a record of a kind may have this bit and this body, a part of the message.
+    pub fn allows(self, kind: u16, critical: bool, message: &[u8], body: Part) -> bool
+        ensures { λ r. ⌜ r ≡ allows (asksOf self kind) critical (partAt (now (message .entry)) (body .start) (body .len)) ⌝ }
+    {
+        match self {
+            Profile::Usual => true,
+            Profile::Strict => is_strict(kind, critical, body.of(message)),
+        }
+    }
+
+    // Whether nothing may follow the end record.
+    pub fn is_final(self) -> bool
+        ensures { λ r. ⌜ r ≡ isFinal self ⌝ }
+    {
+        match self {
+            Profile::Usual => false,
+            Profile::Strict => true,
+        }
+    }
+}
+
+// What RFC 8915 asks of a record, by its kind.
+fn is_strict(kind: u16, critical: bool, body: &[u8]) -> bool
+    ensures { λ r. ⌜ r ≡ allows (asksOf Profile.Strict kind) critical (now (body .entry)) ⌝ }
+{
+    match kind {
+        0 => critical & (body.len() == 0),
+        1 => critical,
+        2 => critical,
+        3 => critical,
+        6 => utf8::is_ascii(body),
+        _ => true,
+    }
 }
 
 // A record laid out: its kind and the bit that is written, what its body holds, and that: a number, or two parts of the lent
@@ -81,6 +140,9 @@ impl Layout {
     pub const LAST_KIND: u16 = 14;
 
     pub const KIND_WITHOUT_NAME: u16 = 11;
+
+    // The last kind that RFC 8915 has.
+    pub const LAST_OF_RFC: u16 = 7;
 
     // Writes the record to the front of the output: how many bytes that is, exactly its length, and no byte after them
     // changes; or a refusal, 9, 8 or 10 in this order, and nothing is written.

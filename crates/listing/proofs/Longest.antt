@@ -11,6 +11,7 @@ use borrow.Author.Tests.{ltb-false, lt-ltb, eqb-true}
 use lib.Dec.{ltb, eqb}
 use lib.ListN.{length, take, length-append, length-take}
 use Rattle.nts.specs.Refusal.{Beside, nothing, code, protocol, algorithm}
+use Rattle.layout.specs.declared.Profile.the-variants.{Usual}
 use Rattle.record.specs.Record.{kind, kindOf, critical, size}
 use Rattle.walk.specs.Walk.{Reader, Sighting, Step, stops, goes, step, faultIn}
 use Rattle.walk.specs.Shown.{Mark, markAt, shown}
@@ -101,6 +102,6 @@ pub listing-longest : (m : List ℕ) (n room : ℕ) → n ≤ 65535 → length (
 unfolding listing
 listing-longest m n room h =
     let cut : length (take n m) ≤ n = simp length-take (omega arith) in
-    let lines = lines-long reader [] 0 0 (take n m) (omega arith) (omega arith) in
-    let last = last-long (toldBy m (request m n room)) in
+    let lines = lines-long (reader Usual) [] 0 0 (take n m) (omega arith) (omega arith) in
+    let last = last-long (toldBy m (request Usual m n room)) in
     simp length-append (omega arith)

@@ -12,8 +12,12 @@ use Rattle.wire.specs.Over.{Put}
 use Rattle.wire.proofs.Over.{put-as}
 use Rattle.nts.specs.declared.NtsError.{NtsError}
 use Rattle.layout.specs.Write.{bytes, fitted, leftBy, Wrote}
+use Rattle.layout.specs.Profile.{isFinal}
+use Rattle.layout.specs.declared.Profile.the-variants.{Usual}
 use Rattle.layout.specs.declared.ByteCount.{ByteCount}
 use Rattle.layout.specs.declared.ByteCount.the-variants as count
+use Rattle.walk.specs.Walk.{Outcome, stopped, ended, walk, behind, walked}
+use Rattle.walk.specs.Found.{placeOf}
 use Rattle.walk.proofs.Telling.{found-place}
 use Rattle.request.specs.Request.{reader, Told, toldAnswer, Judges}
 use Rattle.request.specs.declared.Judged.{Judged}
@@ -25,8 +29,17 @@ use Rattle.listing.proofs.Texts.{made}
 abbrev lastLine : Told → List ℕ
 lastLine t = answerText t ++ (newline ∷ [])
 
+-- what follows the end record is not looked at: the walk stops where the whole reading does
+usual-place : (s : List ℕ) → placeOf (walked (reader Usual) s) ≡ placeOf (walk (reader Usual) [] 0 0 s)
+unfolding walked behind isFinal
+usual-place s = go (walk (reader Usual) [] 0 0 s)
+  where
+    go : (o : Outcome) → placeOf (behind (reader Usual) s o) ≡ placeOf o
+    go (stopped r) = refl
+    go (ended at next st) = refl
+
 -- s is the message m as it is cut after n bytes, and x what the reader answers for it and the finding
-module _ (m : List ℕ) (n room : ℕ) (s : List ℕ) (cut : s ≡ take n m) (x : Judged) (j : Judges m n room x) where
+module _ (m : List ℕ) (n room : ℕ) (s : List ℕ) (cut : s ≡ take n m) (x : Judged) (j : Judges Usual m n room x) where
   abbrev lines : List ℕ
   lines = linesFrom s [] 0
 
@@ -34,7 +47,7 @@ module _ (m : List ℕ) (n room : ℕ) (s : List ℕ) (cut : s ≡ take n m) (x 
   last = lastLine (toldAnswer (x .answer))
 
   pub list-stop : x .finding .place ≡ stopFrom s [] 0
-  list-stop = found-place reader m n (x .finding) (j .found) ∙ ap (λ (t : List ℕ). stopFrom t [] 0) (sym cut)
+  list-stop = found-place (reader Usual) m n (x .finding) (j .found) ∙ usual-place (take n m) ∙ ap (λ (t : List ℕ). stopFrom t [] 0) (sym cut)
 
   parts : (heading ++ lines) ++ last ≡ listing m n room
   unfolding listing

@@ -4,6 +4,7 @@ use mathlib.Core.Path.{_≡_}
 use mathlib.Core.List.{List, [], _∷_, _++_}
 use lib.ListN.{length, drop}
 use Rattle.wire.specs.Over.{Put}
+use Rattle.layout.specs.declared.Profile.the-variants.{Usual}
 use Rattle.record.specs.declared.Glance.{Glance}
 use Rattle.walk.specs.Walk.{Sighting, walk}
 use Rattle.walk.specs.Shown.{Mark, shown}
@@ -31,11 +32,11 @@ rowText x = ((space ∷ []) ++ digits (x .kind)) ++ (((space ∷ mark (x .critic
 
 -- where a walk over the message s that is at a place with the records st noted stops
 abbrev pub stopFrom : List ℕ → List Sighting → ℕ → ℕ
-stopFrom s st at = placeOf (walk reader st at 0 (drop at s))
+stopFrom s st at = placeOf (walk (reader Usual) st at 0 (drop at s))
 
 -- the lines of the records that it meets from there on
 abbrev pub linesFrom : List ℕ → List Sighting → ℕ → List ℕ
-linesFrom s st at = linesOf (shown reader st at 0 (drop at s))
+linesFrom s st at = linesOf (shown (reader Usual) st at 0 (drop at s))
 
 -- what a line found at a place says of them: none, one, or one and those from the place after it on, where the walk stops at the same place
 abbrev pub LinesBy : List ℕ → List Sighting → ℕ → Line → Type 0

@@ -5,6 +5,7 @@ use mathlib.Core.Bool.{Bool, cond}
 use lib.ListN.{take}
 use lib.Dec.{ltb}
 use Rattle.nts.specs.Refusal.{Beside, nothing, code, protocol, algorithm}
+use Rattle.layout.specs.declared.Profile.the-variants.{Usual}
 use Rattle.walk.specs.Shown.{Mark, shown}
 use Rattle.request.specs.Request.{reader, request, Told, keyExchangeIs, fixedKeyIs, supportIs, refusedWith, toldBy}
 
@@ -87,7 +88,7 @@ answerText (refusedWith r) = refusedText ++ (digits (r .number) ++ (atText ++ (d
 
 -- ---- the whole listing
 
--- of a message m, of which the first n bytes are read, and what the request reader answers for it with room for so many names; every line ends in
--- a newline, the last too
+-- of a message m, of which the first n bytes are read, and what the request reader answers for it, in the usual profile, with room for so many names; every line ends
+-- in a newline, the last too
 unfoldable pub listing : List ℕ → ℕ → ℕ → List ℕ
-listing m n room = heading ++ (linesOf (shown reader [] 0 0 (take n m)) ++ (answerText (toldBy m (request m n room)) ++ (newline ∷ [])))
+listing m n room = heading ++ (linesOf (shown (reader Usual) [] 0 0 (take n m)) ++ (answerText (toldBy m (request Usual m n room)) ++ (newline ∷ [])))

@@ -6,6 +6,7 @@ use record::ByteCount;
 use record::Glance;
 use record::Looked;
 use record::NtsRecord;
+use record::Profile;
 use request::Answer;
 use request::Request;
 ghost use mathlib.Core.Path.{_≡_};
@@ -35,12 +36,13 @@ const LINE: usize = 65;
 const LAST_LINE: usize = 112;
 
 // The whole listing of a message read as if it were cut after `limit` bytes, and of what the request reader answers for it with room for so many
-// names: how many bytes that is, or 10 and nothing written where there is no room. The lines are of the records that the reader's finding counts.
+// names, in the usual profile: how many bytes that is, or 10 and nothing written where there is no room. The lines are of the records that the reader's
+// finding counts.
 pub fn list(message: &[u8], limit: u16, room: usize, out: &mut [u8]) -> ByteCount
     ensures { λ r. ⌜ Wrote (fitted (length (now (out .entry))) (bytes (length (listing (now (message .entry)) limit room)))) (listing (now (message .entry)) limit room)
         (now (out .entry)) r (now (out .exit)) ⌝ }
 {
-    let judged = Request::judge(message, limit, room);
+    let judged = Request::judge(Profile::Usual, message, limit, room);
     let answer = judged.answer;
     let place = judged.finding.place;
     let mut last = [0u8; LAST_LINE];
@@ -122,7 +124,7 @@ fn put_lines(cut: &[u8], place: usize, out: &mut [u8]) -> usize
 fn line_at(cut: &[u8], place: usize, at: usize) -> Line
     ensures { λ r. ⌜ LineAt (now (cut .entry)) place at r ⌝ }
 {
-    let answer = record::look(cut, at);
+    let answer = record::look(Profile::Usual, cut, at);
     match answer {
         Looked::Whole(x) => {
             if at == place {

@@ -16,7 +16,7 @@ use Rattle.layout.specs.Table.{rowOf, bitOf}
 use Rattle.layout.specs.Write.{wordOf, header}
 use Rattle.layout.specs.declared.Shape.{Shape}
 use Rattle.layout.specs.declared.Shape.the-variants.{Skipped}
-use Rattle.record.specs.Record.{kind, critical, size, there}
+use Rattle.record.specs.Record.{kind, critical, size, there, faultBy}
 use Rattle.record.proofs.Trip.{word-kind, word-bit, good-faultless}
 use Rattle.record.proofs.Trip as trip
 use Rattle.walk.specs.Walk.{ends, notes, Reader, faultIn, actIn}
@@ -63,7 +63,7 @@ module _ (k : ℕ) (b : List ℕ) where
     module _ (R : Reader) where
       -- a body that is what its kind's shape asks: `trip.Good`
       pub faultless-written : (x : Shape) → R .shape k ≡ x → trip.Good x (length b) b → faultIn R c ≡ 0
-      unfolding faultIn
+      unfolding faultBy
       faultless-written x e g =
           rw (le-ltb (length c) 4 (omega (arith, length-written)), kind-written, size-written, there-written, e) (good-faultless x (length b) b refl g)
 

@@ -5,7 +5,7 @@ use Prim.Native.Nat.{ℕ}
 use Rattle.nts.specs.Algorithm.{Described, known, unknown, toldDescription}
 use Rattle.nts.specs.Refusal.{numberOf, Beside, nothing, code, protocol, algorithm, besideOf, toldCode, Refused, toldRefusal, errorIn}
 use Rattle.nts.specs.declared.NtsError.{NtsError}
-use Rattle.nts.specs.declared.NtsError.the-variants.{UnexpectedEof, InvalidData, UnrecognizedCriticalRecord, Invalid, AeadNotSupported, IncorrectSizedKey, TableFull, InvalidInput, InvalidValue, OutputTooShort, Error, UnknownWarning, NoOverlappingProtocol, NoOverlappingAlgorithm, NoCookie, BufferFull, ProtocolNotOffered, AeadNotOffered}
+use Rattle.nts.specs.declared.NtsError.the-variants.{UnexpectedEof, InvalidData, UnrecognizedCriticalRecord, Invalid, AeadNotSupported, IncorrectSizedKey, TableFull, InvalidInput, InvalidValue, OutputTooShort, Error, UnknownWarning, NoOverlappingProtocol, NoOverlappingAlgorithm, NoCookie, BufferFull, ProtocolNotOffered, AeadNotOffered, NotAllowed}
 use Rattle.nts.specs.declared.Code.{Code}
 use Rattle.nts.specs.declared.Code.the-variants.{None, Number, Protocol, Algorithm}
 use Rattle.nts.specs.declared.Description.{Description}
@@ -39,6 +39,7 @@ error-back NoCookie p = refl
 error-back BufferFull p = refl
 error-back (ProtocolNotOffered c) p = refl
 error-back (AeadNotOffered c) p = refl
+error-back NotAllowed p = refl
 
 pub error-apart : (x y : NtsError) → numberOf x ≡ numberOf y → besideOf x ≡ besideOf y → x ≡ y
 error-apart x y p q = sym (error-back x 0) ∙ (λ j. error-from (record { number = p j; beside = q j; place = 0 })) ∙ error-back y 0

@@ -1,9 +1,9 @@
--- 01, "Numbers a call can refuse with", and 02, orders 1 (16) and 3 (17): the number of each refusal, what is returned beside it, and the place of a reading refusal.
+-- 01, "Numbers a call can refuse with", and 02, orders 1 (16), 3 (17) and 5 (18): the number of each refusal, what is returned beside it, and the place of a reading refusal.
 use Prim.Native.Nat.{ℕ}
 use mathlib.Core.Bool.{cond}
 use lib.Dec.{eqb}
 use Rattle.nts.specs.declared.NtsError.{NtsError}
-use Rattle.nts.specs.declared.NtsError.the-variants.{UnexpectedEof, InvalidData, UnrecognizedCriticalRecord, Invalid, AeadNotSupported, IncorrectSizedKey, TableFull, InvalidInput, InvalidValue, OutputTooShort, Error, UnknownWarning, NoOverlappingProtocol, NoOverlappingAlgorithm, NoCookie, BufferFull, ProtocolNotOffered, AeadNotOffered}
+use Rattle.nts.specs.declared.NtsError.the-variants.{UnexpectedEof, InvalidData, UnrecognizedCriticalRecord, Invalid, AeadNotSupported, IncorrectSizedKey, TableFull, InvalidInput, InvalidValue, OutputTooShort, Error, UnknownWarning, NoOverlappingProtocol, NoOverlappingAlgorithm, NoCookie, BufferFull, ProtocolNotOffered, AeadNotOffered, NotAllowed}
 use Rattle.nts.specs.declared.Code.{Code}
 use Rattle.nts.specs.declared.Code.the-variants.{None, Number, Protocol, Algorithm}
 use Rattle.nts.specs.declared.Refusal.{Refusal}
@@ -28,6 +28,7 @@ numberOf NoCookie = 15
 numberOf BufferFull = 16
 numberOf (ProtocolNotOffered p) = 17
 numberOf (AeadNotOffered a) = 17
+numberOf NotAllowed = 18
 
 -- what is returned beside a number: a number or code whose sort the refusal's own number tells, or a protocol or an algorithm
 pub data Beside : Type 0 where
@@ -56,6 +57,7 @@ besideOf NoCookie = nothing
 besideOf BufferFull = nothing
 besideOf (ProtocolNotOffered p) = protocol (p .0)
 besideOf (AeadNotOffered a) = algorithm (a .0)
+besideOf NotAllowed = nothing
 
 -- the number that stands there, 0 for none
 abbrev pub besideNumber : Beside → ℕ
@@ -89,7 +91,8 @@ errorIn n b =
     (cond (eqb n 14) NoOverlappingAlgorithm
     (cond (eqb n 15) NoCookie
     (cond (eqb n 16) BufferFull
-    (notOffered b))))))))))))))))
+    (cond (eqb n 18) NotAllowed
+    (notOffered b)))))))))))))))))
 
 -- what each case of the answer says
 abbrev pub toldCode : Code → Beside

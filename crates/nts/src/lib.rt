@@ -107,6 +107,8 @@ pub enum NtsError {
     ProtocolNotOffered(NextProtocol),
     // It names an algorithm that was not offered.
     AeadNotOffered(AeadAlgorithm),
+    // The strict profile does not allow the record, or the byte after the end record.
+    NotAllowed,
 }
 
 // What is returned beside a refusal's number: with 17 a protocol or an algorithm, each as such.
@@ -117,7 +119,7 @@ pub enum Code {
     Algorithm(AeadAlgorithm),
 }
 
-// A reading refusal: why, and the place of the first byte of the record concerned.
+// A reading refusal: why, and the place of the first byte of the record concerned; of 18 for a byte after the end record, that byte's.
 pub struct Refusal {
     pub error: NtsError,
     pub place: usize,
@@ -147,6 +149,7 @@ impl NtsError {
             NtsError::BufferFull => 16,
             NtsError::ProtocolNotOffered(_) => 17,
             NtsError::AeadNotOffered(_) => 17,
+            NtsError::NotAllowed => 18,
         }
     }
 
@@ -173,6 +176,7 @@ impl NtsError {
             NtsError::BufferFull => Code::None,
             NtsError::ProtocolNotOffered(protocol) => Code::Protocol(protocol),
             NtsError::AeadNotOffered(algorithm) => Code::Algorithm(algorithm),
+            NtsError::NotAllowed => Code::None,
         }
     }
 }

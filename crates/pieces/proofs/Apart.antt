@@ -37,7 +37,7 @@ state-apart (state.Refused r) state.Accepted e = let o : _≡_ {A = ℕ} 0 1 = c
 pub connection-apart : (x y : Connection) → toldConnection x ≡ toldConnection y → x ≡ y
 connection-apart x y e =
     let s = state-apart (x .state) (y .state) (ap (λ (l : Line). l .standing) e) in
-    λ i. record { limit = e i .limit; gathered = e i .gathered; begins = e i .begins; met = e i .met; state = s i }
+    λ i. record { profile = e i .profile; limit = e i .limit; gathered = e i .gathered; begins = e i .begins; met = e i .met; state = s i }
 
 -- an answer says what the whole-message reader's says, or nothing yet
 never : {A T : Type 0} {x : T} → nothingYet ≡ says x → A

@@ -10,15 +10,16 @@ use lib.ListN.{length, take, drop, length-drop, length-append}
 use lib.Seq.{length-take-le}
 use Rattle.wire.specs.Over.{over}
 use Rattle.nts.specs.Refusal.{Refused, toldRefusal}
-use Rattle.nts.specs.declared.NtsError.the-variants.{InvalidValue, BufferFull}
+use Rattle.nts.specs.declared.NtsError.the-variants.{InvalidValue, BufferFull, NotAllowed}
 use Rattle.nts.specs.declared.Refusal.{Refusal}
 use Rattle.walk.specs.Walk.{Reader}
 use Rattle.walk.specs.Judge as judge
 use Rattle.walk.specs.Judge.{Terms, roomFor, readBy}
-use Rattle.walk.specs.Rules.{readerOf}
+use Rattle.layout.specs.declared.Profile.{Profile}
+use Rattle.walk.specs.Rules.{Rules, readerOf}
 use Rattle.pieces.specs.Pieces.{Standing, accepted, refused, Line, broken, Brought, joined, fitting, comes, Read, Fed, none, answers, refusedAt, answerAfter, firstAnswer, again, byStanding, answerOf, isPending, standingBy, lineAfter, bufferAfter, filledBy, tableAfter, Says, nothingYet, says, saysOf, held, Hands, toldState, toldConnection}
 use Rattle.pieces.specs.Pieces as pieces
-use Rattle.pieces.specs.Code.{IsPending, carriedBy, toldHow, toldCame, Gathers}
+use Rattle.pieces.specs.Code.{IsPending, carriedBy, toldHow, toldCame, Comes, rulesOf}
 use Rattle.pieces.specs.declared.Connection.{Connection}
 use Rattle.pieces.specs.declared.State.{State}
 use Rattle.pieces.specs.declared.State.the-variants as state
@@ -47,11 +48,11 @@ front-part n s = ap (λ (k : ℕ). take k s) (sub-zero n)
 
 -- an answer a over the bytes gathered, with room for as many records, where every number was offered
 pub again-says : (X : Read) (c : Connection) (b : List ℕ) (a : X .Told)
-    → a ≡ X .tells (take (c .gathered - 0) (drop 0 b)) (readBy (X .reader) (X .judging) (take (c .gathered - 0) (drop 0 b)) (record { limit = c .limit; terms = roomFor (c .gathered) }))
+    → a ≡ X .tells (take (c .gathered - 0) (drop 0 b)) (readBy (X .reader) (X .judging) (take (c .gathered - 0) (drop 0 b)) (record { profile = c .profile; limit = c .limit; terms = roomFor (c .gathered) }))
     → says a ≡ saysOf X (held (toldConnection c) b) (again X (toldConnection c) b)
 unfolding again
 again-says X c b a q =
-    ap says (q ∙ ap (λ (s : List ℕ). X .tells s (readBy (X .reader) (X .judging) s (record { limit = c .limit; terms = roomFor (c .gathered) }))) (front-part (c .gathered) b))
+    ap says (q ∙ ap (λ (s : List ℕ). X .tells s (readBy (X .reader) (X .judging) s (record { profile = c .profile; limit = c .limit; terms = roomFor (c .gathered) }))) (front-part (c .gathered) b))
 
 -- ---- a piece handed to a read without an answer
 
@@ -61,7 +62,7 @@ pub record Telling (X : Read) : Type 1 where
   pub told : (m : List ℕ) (a : judge.Answer (X .judging .Q)) → stands (X .tells m a) ≡ standingBy {Q = X .judging .Q} (answers a)
   pub kept : (r : Refused) (t : List ℕ) → X .fills (judge.refused r) t ≡ t
 
-module _ (X : Read) (T : Telling X) (rules : List ℕ) (same : readerOf rules ≡ X .reader) (c : Connection) (p : List ℕ) (closed : Bool) (b : List ℕ) (u : IsPending c b) (x : Came) (b′ : List ℕ) (g : Gathers rules c p closed b x b′) where
+module _ (X : Read) (T : Telling X) (entries : List ℕ) (same : (P : Profile) → readerOf (record { profile = P; entries = entries }) ≡ X .reader P) (c : Connection) (p : List ℕ) (closed : Bool) (b : List ℕ) (u : IsPending c b) (x : Came) (b′ : List ℕ) (g : Comes (rulesOf c entries) c p closed b x b′) where
   abbrev l : Line
   l = toldConnection c
 
@@ -73,11 +74,11 @@ module _ (X : Read) (T : Telling X) (rules : List ℕ) (same : readerOf rules �
   m = take (x .gathered) b′
 
   -- by the reader's own table
-  came : toldCame x ≡ comes (X .reader) l b h
-  came = g .says ∙ ap (λ (R : Reader). comes R l b h) same
+  came : toldCame x ≡ comes (X .reader (c .profile)) l b h
+  came = g .says ∙ ap (λ (R : Reader). comes R l b h) (same (c .profile))
 
   fits : x .gathered ≤ length (fitting l b h)
-  fits = rw (ap (λ (y : pieces.Came). y .gathered) came) (came-inside (X .reader) l b h (u .0))
+  fits = rw (ap (λ (y : pieces.Came). y .gathered) came) (came-inside (X .reader (c .profile)) l b h (u .0))
 
   -- they are read where the buffer is
   pub gathered-inside : x .gathered ≤ length b′
@@ -98,7 +99,7 @@ module _ (X : Read) (T : Telling X) (rules : List ℕ) (same : readerOf rules �
   module _ (under : Terms) (t : List ℕ) where
     -- the answer by what was gathered, and that it is the definition's
     after : Fed (X .judging .Q)
-    after = answerAfter X (c .limit) (toldHow (x .how)) m under
+    after = answerAfter X (c .profile) (c .limit) (toldHow (x .how)) m under
 
     first : firstAnswer X l b h under ≡ after
     unfolding firstAnswer after
@@ -125,6 +126,7 @@ module _ (X : Read) (T : Telling X) (rules : List ℕ) (same : readerOf rules �
         rw q (record {
           answer = y ∙ ap (saysOf X m) (sym (answered ∙ a));
           line = rw waiting-still (λ i. record {
+            profile = c .profile;
             limit = c .limit;
             gathered = came i .gathered;
             begins = came i .begins;
@@ -146,14 +148,21 @@ module _ (X : Read) (T : Telling X) (rules : List ℕ) (same : readerOf rules �
     hands-full e y z yq zq v q =
         hands-on (refusedAt 16 (x .gathered)) (rw (e, long) refl) (state.Refused y) (rw yq refl) v q _ (rw zq refl) t (sym (T .kept _ t))
 
+    -- the same of a byte that follows the end record
+    pub hands-followed : x .how ≡ how.Followed → (y z : Refusal) → y ≡ record { error = NotAllowed; place = x .gathered } → z ≡ record { error = NotAllowed; place = x .gathered }
+        → (v : Connection) → v ≡ carriedBy c x (state.Refused y) → Hands X l b h under t (says (X .tells m (judge.refused (toldRefusal z)))) (toldConnection v) b′ t
+    unfolding after
+    hands-followed e y z yq zq v q =
+        hands-on (refusedAt 18 (x .gathered)) (rw (e, long) refl) (state.Refused y) (rw yq refl) v q _ (rw zq refl) t (sym (T .kept _ t))
+
     -- what the whole-message reader answers over s
     read : List ℕ → judge.Answer (X .judging .Q)
-    read s = readBy (X .reader) (X .judging) s (record { limit = c .limit; terms = under })
+    read s = readBy (X .reader) (X .judging) s (record { profile = c .profile; limit = c .limit; terms = under })
 
     -- its answer a over the bytes gathered, and the table that it leaves
     pub hands-decided : x .how ≡ how.Decided → (a : X .Told) (t′ : List ℕ)
-        → a ≡ X .tells (take (x .gathered - 0) (drop 0 b′)) (readBy (X .reader) (X .judging) (take (x .gathered - 0) (drop 0 b′)) (record { limit = c .limit; terms = under }))
-        → t′ ≡ X .fills (readBy (X .reader) (X .judging) (take (x .gathered - 0) (drop 0 b′)) (record { limit = c .limit; terms = under })) t
+        → a ≡ X .tells (take (x .gathered - 0) (drop 0 b′)) (readBy (X .reader) (X .judging) (take (x .gathered - 0) (drop 0 b′)) (record { profile = c .profile; limit = c .limit; terms = under }))
+        → t′ ≡ X .fills (readBy (X .reader) (X .judging) (take (x .gathered - 0) (drop 0 b′)) (record { profile = c .profile; limit = c .limit; terms = under })) t
         → (w : State) → toldState w ≡ T .stands a → (v : Connection) → v ≡ carriedBy c x w → Hands X l b h under t (says a) (toldConnection v) b′ t′
     unfolding after read
     hands-decided e a t′ y z w k v q =

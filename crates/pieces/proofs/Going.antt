@@ -77,7 +77,7 @@ module _ (R : Reader) (s t : List ℕ) (h : whole s ≡ true) where
   unfolding passing
   passing-more met = λ j.
       elim (step-more (metBelow met 15) 0 j) as (λ (y : Step). Passing)
-      [ stops o ↦ halts | goes st ↦ on (withMet met (slotOf (kind-append s t (omega (arith, whole-long s h)) j))) ]
+      [ stops o ↦ halts | goes st ↦ on (withMet met (slotOf (R .shape) (kind-append s t (omega (arith, whole-long s h)) j))) ]
 
 -- ---- one record after the other
 
@@ -242,18 +242,27 @@ module _ (R : Reader) (t : List ℕ) where
   pub going-decides-more : (met at : ℕ) (s : List ℕ) (a m through : ℕ) → going R met at 0 s ≡ decides a m through → going R met at 0 (s ++ t) ≡ decides a m through
   going-decides-more met at s a m through e = subst (Joins met at s) e (going-joins met at s)
 
--- ---- readers that do the same
+-- ---- a record that decides, from its own place
 
-module _ (R R′ : Reader) (same : (st : List Sighting) (at : ℕ) (s : List ℕ) → step R st at s ≡ step R′ st at s) where
-  pub passing-like : (met : ℕ) (s : List ℕ) → passing R met s ≡ passing R′ met s
-  unfolding passing
-  passing-like met s = λ j. elim (same (metBelow met 15) 0 s j) as (λ (y : Step). Passing) [ stops o ↦ halts | goes st ↦ on (withMet met (slotOf (kind s))) ]
+module _ (R : Reader) where
+  abbrev Again : ℕ → ℕ → List ℕ → Going → Type 0
+  Again met at s (waits a m) = Unit {0}
+  Again met at s (decides a m through) = (at ≤ a) × (going R m a 0 (drop (a - at) s) ≡ decides a m through)
 
-  pub going-like : (met at k : ℕ) (s : List ℕ) → going R met at k s ≡ going R′ met at k s
-  going-like met at k s =
-      going-drop R met at k s
-      ∙ by-records R (λ met at s g. g ≡ going R′ met at 0 s) (λ met at s h. sym (going-waits R′ met at s h))
-      (λ met at s h e. sym (going-halts R′ met at s h (sym (passing-like met s) ∙ e)))
-      (λ met at m s g h e i. i ∙ sym (going-on R′ met at s m h (sym (passing-like met s) ∙ e)))
-      met at (drop k s)
-      ∙ sym (going-drop R′ met at k s)
+  again-on : (met at m : ℕ) (s : List ℕ) (g : Going) → whole s ≡ true → passing R met s ≡ on m → Again m (at + (4 + size s)) (drop (4 + size s) s) g → Again met at s g
+  again-on met at m s (waits a m′) h e i = tt
+  again-on met at m s (decides a m′ through) h e i =
+      let q : 4 + size s + (a - (at + (4 + size s))) ≡ a - at = omega (arith, i .0) in
+      let d : drop (a - (at + (4 + size s))) (drop (4 + size s) s) ≡ drop (a - at) s = drop-drop (a - (at + (4 + size s))) (4 + size s) s ∙ ap (λ (n : ℕ). drop n s) q in
+      (omega (arith, i .0), ap (going R m′ a 0) (sym d) ∙ i .1)
+
+  going-again : (met at : ℕ) (s : List ℕ) → Again met at s (going R met at 0 s)
+  going-again =
+      by-records R Again (λ met at s h. tt)
+      (λ met at s h e. let z : at - at ≡ 0 = omega arith in (omega arith, rw z (going-halts R met at s h e)))
+      again-on
+
+  pub decides-again : (s : List ℕ) (a m through : ℕ) → going R 0 0 0 s ≡ decides a m through → going R m a 0 (drop a s) ≡ decides a m through
+  decides-again s a m through e =
+      let z : a - 0 ≡ a = omega arith in
+      rw z at (subst (Again 0 0 s) e (going-again 0 0 s) .1)

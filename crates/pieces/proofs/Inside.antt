@@ -12,8 +12,8 @@ use lib.Dec.{ltb, leb}
 use Rattle.wire.specs.Over.{over}
 use Rattle.record.specs.Record.{size}
 use Rattle.walk.specs.Walk.{Reader}
-use Rattle.walk.specs.Met.{Passing, halts, on, passing}
-use Rattle.pieces.specs.Pieces.{Line, broken, Brought, joined, inside, fitting, whole, Going, waits, decides, going, otherwise, cameTo, beginsAt, comes, toldConnection}
+use Rattle.walk.specs.Met.{Passing, halts, on, passing, ends}
+use Rattle.pieces.specs.Pieces.{Line, broken, Brought, joined, inside, fitting, whole, Going, waits, decides, going, otherwise, Came, cameTo, beginsAt, gathers, howAfter, isDecided, afterEnd, comes, toldConnection}
 use Rattle.pieces.specs.declared.Connection.{Connection}
 
 both : (a b : Bool) → (a && b) ≡ true → (a ≡ true) × (b ≡ true)
@@ -66,9 +66,9 @@ begins-inside c b h e =
     by-start false q = ltb-false _ _ q
 
 -- no more than those are gathered
-pub came-inside : (R : Reader) (c : Line) (b : List ℕ) (h : Brought) → broken c b ≡ false → comes R c b h .gathered ≤ length (fitting c b h)
-unfolding comes
-came-inside R c b h e = by-going (going R (c .met) (beginsAt c) 0 (drop (beginsAt c) (fitting c b h))) refl
+pub gathers-inside : (R : Reader) (c : Line) (b : List ℕ) (h : Brought) → broken c b ≡ false → gathers R c b h .gathered ≤ length (fitting c b h)
+unfolding gathers
+gathers-inside R c b h e = by-going (going R (c .met) (beginsAt c) 0 (drop (beginsAt c) (fitting c b h))) refl
   where
     by-going : (g : Going) → going R (c .met) (beginsAt c) 0 (drop (beginsAt c) (fitting c b h)) ≡ g → cameTo (otherwise c b h) (length (fitting c b h)) g .gathered ≤ length (fitting c b h)
     by-going (waits at met) q = omega arith
@@ -77,6 +77,22 @@ came-inside R c b h e = by-going (going R (c .met) (beginsAt c) 0 (drop (beginsA
         let j = begins-inside c b h e in
         let k = length-drop (beginsAt c) (fitting c b h) in
         omega arith
+
+-- after an end record as many are
+pub after-gathered : (R : Reader) (n long : ℕ) (closed : Bool) (s : List ℕ) (x : Came) → afterEnd R n long closed s x .gathered ≡ x .gathered
+unfolding afterEnd
+after-gathered R n long closed s x = go (R .final && isDecided (x .how) && ends R (drop (x .begins) s))
+  where
+    go : (t : Bool) → cond t (record { gathered = x .gathered; begins = x .begins; met = x .met; how = howAfter n long closed (x .gathered) }) x .gathered ≡ x .gathered
+    go true = refl
+    go false = refl
+
+pub comes-gathered : (R : Reader) (c : Line) (b : List ℕ) (h : Brought) → comes R c b h .gathered ≡ gathers R c b h .gathered
+unfolding comes
+comes-gathered R c b h = after-gathered R (c .limit) (length (inside c b h)) (h .closed) (take (gathers R c b h .gathered) (joined c b h)) (gathers R c b h)
+
+pub came-inside : (R : Reader) (c : Line) (b : List ℕ) (h : Brought) → broken c b ≡ false → comes R c b h .gathered ≤ length (fitting c b h)
+came-inside R c b h e = omega (arith, comes-gathered R c b h, gathers-inside R c b h e)
 
 -- they fit into the buffer, and are among the bytes joined
 pub fitting-inside : (c : Line) (b : List ℕ) (h : Brought) → (length (fitting c b h) ≤ length b) × (length (fitting c b h) ≤ length (joined c b h))

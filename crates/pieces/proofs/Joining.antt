@@ -16,7 +16,7 @@ use Rattle.wire.proofs.Bytes.{number-drop}
 use Rattle.wire.proofs.Over.{over-none}
 use Rattle.record.specs.Record.{size}
 use Rattle.walk.specs.Walk.{Reader}
-use Rattle.walk.specs.Rules.{readerOf}
+use Rattle.walk.specs.Rules.{Rules, readerOf}
 use Rattle.walk.specs.Met.{halts, on, passing}
 use Rattle.walk.proofs.Chunks.{size-append}
 use Rattle.pieces.specs.Pieces as pieces
@@ -44,7 +44,7 @@ came-within R w met at n s r e l = go (going R met at 0 s) e (going-reaches R me
 
 -- ---- the records of a part from a place of it on
 
-module _ (rules : List ℕ) (x : Front) (w : How) (p : List ℕ) (from : ℕ) (h : from ≤ length p) where
+module _ (rules : Rules) (x : Front) (w : How) (p : List ℕ) (from : ℕ) (h : from ≤ length p) where
   -- as the code lends them
   abbrev rest : List ℕ
   rest = take (length p - from) (drop from p)
@@ -208,7 +208,7 @@ module _ (b p : List ℕ) (held : ℕ) (room : held ≤ length b) where
 
 -- ---- a part that fits behind what was gathered before
 
-module _ (rules : List ℕ) (x : Front) (w : How) (p b : List ℕ) (f : Fits x b) where
+module _ (rules : Rules) (x : Front) (w : How) (p b : List ℕ) (f : Fits x b) where
   abbrev R : Reader
   R = readerOf rules
 

@@ -8,5 +8,6 @@ pub mod Going
 pub mod Storing
 pub mod Joining
 pub mod Taking
+pub mod Ending
 pub mod Scanning
 pub mod Stopping

@@ -3,19 +3,22 @@
 -- Assumes nothing.
 use mathlib.Core.Path.{_≡_, refl, sym, ap, _∙_, subst}
 use mathlib.Core.List.{List, [], _++_}
-use mathlib.Core.Bool.{true, false}
-use Prim.Native.Nat.{ℕ, _+_, _-_, _≤_}
+use mathlib.Core.Bool.{Bool, true, false, cond, _&&_, true≢false}
+use Prim.Native.Nat.{ℕ, zero, suc, _+_, _-_, _≤_}
 use native.Mathlib.Omega.{arith}
 use lib.ListN.{drop}
 use lib.Seq.{drop-drop, drop-append-le}
+use Rattle.nts.specs.Refusal.{Refused}
 use Rattle.record.specs.Record.{kind, size}
-use Rattle.walk.specs.Walk.{Reader, Sighting, Outcome, Step, stops, goes, step, walk}
-use Rattle.walk.specs.Rules.{readerOf}
+use Rattle.walk.specs.Walk as acts
+use Rattle.walk.specs.Walk.{Act, Reader, faultIn, actIn, Sighting, Outcome, stopped, ended, Step, stops, goes, has, meet, judge, step, walk}
+use Rattle.walk.specs.Rules.{Rules, readerOf}
 use Rattle.walk.specs.Shown.{slotOf}
-use Rattle.walk.specs.Met.{withMet, halts, on, passing}
+use Rattle.walk.specs.Met.{withMet, halts, on, passing, isEnded, ends}
 use Rattle.walk.specs.Found.{placeOf}
 use Rattle.walk.proofs.Unroll.{unroll}
 use Rattle.walk.proofs.Faultless.{faultless-whole}
+use Rattle.walk.proofs.Passing.{reached}
 use Rattle.walk.proofs.Noted.{step-went}
 use Rattle.walk.proofs.Meets.{step-place}
 use Rattle.walk.proofs.Marks.{Marks, marks-start, passing-stops, passing-goes}
@@ -31,12 +34,81 @@ pub record Halts (R : Reader) (st : List Sighting) (at : ℕ) (s : List ℕ) (a 
   pub stands : whole (drop (a - at) s) ≡ true
   pub reaches : through ≡ a + (4 + size (drop (a - at) s))
   pub same : (t : List ℕ) → walk R st at 0 (s ++ t) ≡ walk R st at 0 s
+  -- it ends the message just where its record does
+  pub ending : reached (walk R st at 0 s) ≡ ends R (drop (a - at) s)
+  pub next : (p n : ℕ) (st′ : List Sighting) → walk R st at 0 s ≡ ended p n st′ → n ≡ through
 
 abbrev pub Stops : Reader → List Sighting → ℕ → List ℕ → Going → Type 0
 Stops R st at s (waits a m) = placeOf (walk R st at 0 s) ≡ a
 Stops R st at s (decides a m through) = Halts R st at s a through
 
 -- ---- one record
+
+-- whether a record ends the message does not hang on those before it
+ends-by : (R : Reader) (st : List Sighting) (at : ℕ) (s : List ℕ) → isEnded (step R st at s) ≡ ends R s
+unfolding ends step judge meet
+ends-by R st at s = by-fault (faultIn R s)
+  where
+    noted : (b c : Bool) (o p : Refused) (l m : List Sighting) → isEnded (cond b (stops (stopped o)) (goes l)) ≡ isEnded (cond c (stops (stopped p)) (goes m))
+    noted true true o p l m = refl
+    noted true false o p l m = refl
+    noted false true o p l m = refl
+    noted false false o p l m = refl
+
+    by-act : (a : Act) → isEnded (meet R st at (kind s) (size s) a) ≡ isEnded (meet R [] 0 (kind s) (size s) a)
+    by-act acts.ends = refl
+    by-act acts.passes = refl
+    by-act acts.notes = noted (R .once (kind s) && has (kind s) st) (R .once (kind s) && has (kind s) []) _ _ _ _
+    by-act (acts.refuses n b) = refl
+
+    by-fault : (f : ℕ) → isEnded (judge R st at s f) ≡ isEnded (judge R [] 0 s f)
+    by-fault zero = by-act (actIn R s)
+    by-fault (suc f) = refl
+
+-- .. nor on what follows it
+pub ends-more : (R : Reader) (s t : List ℕ) → whole s ≡ true → ends R (s ++ t) ≡ ends R s
+unfolding ends
+ends-more R s t w = ap isEnded (step-more R s t w [] 0)
+
+-- a step that ends the message has a record without fault
+ended-faultless : (R : Reader) (st : List Sighting) (at : ℕ) (s : List ℕ) (p n : ℕ) (st′ : List Sighting) → step R st at s ≡ stops (ended p n st′) → faultIn R s ≡ 0
+unfolding step judge
+ended-faultless R st at s p n st′ e = go (faultIn R s) refl e
+  where
+    go : (f : ℕ) → faultIn R s ≡ f → judge R st at s f ≡ stops (ended p n st′) → faultIn R s ≡ 0
+    go zero z q = z
+    go (suc f) z q = let o : _≡_ {A = ℕ} 0 1 = cc in absurd (omega arith)
+
+-- and a record that is not whole does not
+pub partial-ends : (R : Reader) (s : List ℕ) → whole s ≡ false → ends R s ≡ false
+unfolding ends
+partial-ends R s w = go (step R [] 0 s) refl
+  where
+    go : (x : Step) → step R [] 0 s ≡ x → isEnded x ≡ false
+    go (stops (stopped r)) e = refl
+    go (stops (ended p n st)) e =
+        let h : true ≡ false = sym (long-whole s (faultless-whole R s (ended-faultless R [] 0 s p n st e))) ∙ w in
+        absurd (true≢false h)
+    go (goes st) e = refl
+
+-- a step that ends the message ends it with its record
+ended-next : (R : Reader) (st : List Sighting) (at : ℕ) (s : List ℕ) (p n : ℕ) (st′ : List Sighting) → step R st at s ≡ stops (ended p n st′) → n ≡ at + (4 + size s)
+unfolding step judge meet
+ended-next R st at s p n st′ e = by-fault (faultIn R s) e
+  where
+    noted : (b : Bool) (o : Refused) (l : List Sighting) → cond b (stops (stopped o)) (goes l) ≡ stops (ended p n st′) → n ≡ at + (4 + size s)
+    noted true o l q = let z : _≡_ {A = ℕ} 0 1 = cc in absurd (omega arith)
+    noted false o l q = let z : _≡_ {A = ℕ} 0 1 = cc in absurd (omega arith)
+
+    by-act : (a : Act) → meet R st at (kind s) (size s) a ≡ stops (ended p n st′) → n ≡ at + (4 + size s)
+    by-act acts.ends q = cc
+    by-act acts.passes q = let z : _≡_ {A = ℕ} 0 1 = cc in absurd (omega arith)
+    by-act acts.notes q = noted (R .once (kind s) && has (kind s) st) _ _ q
+    by-act (acts.refuses k b) q = let z : _≡_ {A = ℕ} 0 1 = cc in absurd (omega arith)
+
+    by-fault : (f : ℕ) → judge R st at s f ≡ stops (ended p n st′) → n ≡ at + (4 + size s)
+    by-fault zero q = by-act (actIn R s) q
+    by-fault (suc f) q = let z : _≡_ {A = ℕ} 0 1 = cc in absurd (omega arith)
 
 walk-stops : (R : Reader) (st : List Sighting) (at : ℕ) (s : List ℕ) (o : Outcome) → step R st at s ≡ stops o → walk R st at 0 s ≡ o
 walk-stops R st at s o e = unroll R st at s ∙ rw e
@@ -93,11 +165,13 @@ stops-behind R st st′ at s g w e = go g
           stands = ap whole (sym d) ∙ i .stands;
           reaches = i .reaches ∙ ap (λ (l : List ℕ). a + (4 + size l)) d;
           same = λ t. more t ∙ i .same t ∙ sym next;
+          ending = ap reached next ∙ i .ending ∙ ap (ends R) d;
+          next = λ p n st₁ z. i .next p n st₁ (sym next ∙ z);
         }
 
 -- ---- by a table
 
-module _ (rules : List ℕ) where
+module _ (rules : Rules) where
   abbrev R : Reader
   R = readerOf rules
 
@@ -119,7 +193,18 @@ module _ (rules : List ℕ) where
         stands = rw e w;
         reaches = rw e;
         same = λ t. walk-halts R st at s t w (λ st′ q. halts-not met at s st st′ p k q);
+        ending = rw e (go (step R st at s) refl ∙ ends-by R st at s);
+        next = λ a n st′ z. by (step R st at s) refl a n st′ z;
       }
+    where
+      go : (x : Step) → step R st at s ≡ x → reached (walk R st at 0 s) ≡ isEnded x
+      go (stops (stopped r)) q = ap reached (walk-stops R st at s (stopped r) q)
+      go (stops (ended a n st′)) q = ap reached (walk-stops R st at s (ended a n st′) q)
+      go (goes st′) q = absurd (halts-not met at s st st′ p k q)
+
+      by : (x : Step) → step R st at s ≡ x → (a n : ℕ) (st′ : List Sighting) → walk R st at 0 s ≡ ended a n st′ → n ≡ at + (4 + size s)
+      by (stops o) q a n st′ z = ended-next R st at s a n st′ (q ∙ ap stops (sym (walk-stops R st at s o q) ∙ z))
+      by (goes st₁) q a n st′ z = absurd (halts-not met at s st st₁ p k q)
 
   told-onward : (met at m : ℕ) (s : List ℕ) (g : Going) → whole s ≡ true → passing R met s ≡ on m → Told m (at + (4 + size s)) (drop (4 + size s) s) g → Told met at s g
   told-onward met at m s g w p i st k = go (step R st at s) refl
@@ -131,7 +216,7 @@ module _ (rules : List ℕ) where
       go (stops o) e = absurd (on-not met at m s st o p k e)
       go (goes st′) e =
           let h = passing-goes rules met st k at s st′ e in
-          let same : withMet met (slotOf (kind s)) ≡ m = on-is _ _ (sym (h .0) ∙ p) in
+          let same : withMet met (slotOf (R .shape) (kind s)) ≡ m = on-is _ _ (sym (h .0) ∙ p) in
           stops-behind R st st′ at s g w e (i st′ (subst (λ (n : ℕ). Marks rules n st′) same (h .1)))
 
   pub stops-told : (met at : ℕ) (s : List ℕ) → Told met at s (going R met at 0 s)

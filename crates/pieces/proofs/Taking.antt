@@ -15,10 +15,10 @@ use borrow.Author.Tests.{ltb-true, ltb-false, leb-true, leb-false, eqb-true, eqb
 use Rattle.wire.specs.Over.{over, Tried}
 use Rattle.wire.proofs.Over.{length-over}
 use Rattle.walk.specs.Walk.{Reader}
-use Rattle.walk.specs.Rules.{readerOf}
+use Rattle.walk.specs.Rules.{Rules, readerOf}
 use Rattle.walk.proofs.Passing.{take-over}
 use Rattle.pieces.specs.Pieces as pieces
-use Rattle.pieces.specs.Pieces.{waiting, noRoom, decided, Line, Brought, broken, joined, inside, fitting, full, otherwise, whole, waits, decides, going, cameTo, comes, toldConnection}
+use Rattle.pieces.specs.Pieces.{waiting, noRoom, decided, Line, Brought, broken, joined, inside, fitting, full, otherwise, whole, waits, decides, going, cameTo, gathers, toldConnection}
 use Rattle.pieces.specs.Code.{toldHow, howOf, smallerOf, Fits, JudgesPart, fits, TakesPiece, Gathers}
 use Rattle.pieces.specs.declared.Connection.{Connection}
 use Rattle.pieces.specs.declared.How.{How}
@@ -136,7 +136,7 @@ module _ (x : Front) (limit : ℕ) (p b : List ℕ) (f : Fits x b) (h : x .held 
     pub fits-room : x .held + n ≤ length b
     fits-room = omega (arith, g, smaller-min (length p) (m - x .held), d, smaller-min limit (length b), fits-least)
 
-module _ (rules : List ℕ) (x : Front) (limit : ℕ) (closed : Bool) (p b : List ℕ) (f : Fits x b) (h : x .held ≤ limit) where
+module _ (rules : Rules) (x : Front) (limit : ℕ) (closed : Bool) (p b : List ℕ) (f : Fits x b) (h : x .held ≤ limit) where
   -- what fits is inside
   fits-inside : (n : ℕ) → n ≡ fits x limit p b → (n ≤ length p) × (x .held + n ≤ limit) × (x .held + n ≤ length b)
   fits-inside n e =
@@ -233,7 +233,7 @@ module _ (c : Line) (b : List ℕ) (h : Brought) (u : broken c b ≡ false) wher
     otherwise-is =
         how-otherwise (c .limit) (length b) (c .gathered) (length (h .piece)) n (length (inside c b h)) (h .closed) (unbroken c b u .1) (unbroken c b u .0) e inside-long
 
-module _ (rules : List ℕ) (c : Connection) (p : List ℕ) (closed : Bool) (b : List ℕ) (u : broken (toldConnection c) b ≡ false)
+module _ (rules : Rules) (c : Connection) (p : List ℕ) (closed : Bool) (b : List ℕ) (u : broken (toldConnection c) b ≡ false)
     (start : ℕ) (es : start ≡ smallerOf (c .begins) (c .gathered)) where
   abbrev R : Reader
   R = readerOf rules
@@ -278,8 +278,8 @@ module _ (rules : List ℕ) (c : Connection) (p : List ℕ) (closed : Bool) (b :
       (going R (c .met) k 0 (drop k (fitting (toldConnection c) b brought)))
 
   -- where it comes to, in the place of the code
-  comes-from : from start ≡ comes R (toldConnection c) b brought
-  unfolding comes smallerOf
+  comes-from : from start ≡ gathers R (toldConnection c) b brought
+  unfolding gathers smallerOf
   comes-from = ap from es
 
   abbrev fit : ℕ

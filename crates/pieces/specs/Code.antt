@@ -7,9 +7,9 @@ use lib.ListN.{length, take, drop}
 use lib.Dec.{ltb, eqb}
 use Rattle.wire.specs.Over.{over}
 use Rattle.record.specs.Record.{size}
-use Rattle.walk.specs.Rules.{readerOf}
+use Rattle.walk.specs.Rules.{Rules, readerOf}
 use Rattle.pieces.specs.Pieces as pieces
-use Rattle.pieces.specs.Pieces.{Going, waits, decides, whole, going, broken, joined, cameTo, comes, toldConnection}
+use Rattle.pieces.specs.Pieces.{Going, waits, decides, whole, going, broken, joined, cameTo, gathers, comes, toldConnection}
 use Rattle.pieces.specs.declared.Connection.{Connection}
 use Rattle.pieces.specs.declared.State.{State}
 use Rattle.pieces.specs.declared.State.the-variants as state
@@ -29,7 +29,7 @@ abbrev pub IsPending : Connection → List ℕ → Type 0
 IsPending c b = (broken (toldConnection c) b ≡ false) × (c .state ≡ state.Pending)
 
 abbrev pub carriedBy : Connection → Came → State → Connection
-carriedBy c x s = record { limit = c .limit; gathered = x .gathered; begins = x .begins; met = x .met; state = s }
+carriedBy c x s = record { profile = c .profile; limit = c .limit; gathered = x .gathered; begins = x .begins; met = x .met; state = s }
 
 -- ---- what each case says
 
@@ -40,6 +40,7 @@ toldScanned (scanned.Decides at met through) = decides at met through
 abbrev pub toldHow : How → pieces.How
 toldHow how.Waiting = pieces.waiting
 toldHow how.NoRoom = pieces.noRoom
+toldHow how.Followed = pieces.followed
 toldHow how.Decided = pieces.decided
 
 abbrev pub toldCame : Came → pieces.Came
@@ -65,11 +66,11 @@ pub record Fits (x : Front) (b : List ℕ) : Type 0 where
   pub partial : whole (drop (x .begins) (take (x .held) b)) ≡ false
 
 -- the records of p from a place of it on
-abbrev pub JudgesRest : List ℕ → Front → How → List ℕ → ℕ → Came → Type 0
+abbrev pub JudgesRest : Rules → Front → How → List ℕ → ℕ → Came → Type 0
 JudgesRest rules x w p from r = toldCame r ≡ cameTo (toldHow w) (x .held + length p) (going (readerOf rules) (x .met) (x .held + from) 0 (drop from p))
 
 -- those of the bytes held and of p; nothing is stored but bytes of p that the answer counts
-pub record JudgesPart (rules : List ℕ) (x : Front) (w : How) (p b : List ℕ) (r : Came) (b′ : List ℕ) : Type 0 where
+pub record JudgesPart (rules : Rules) (x : Front) (w : How) (p b : List ℕ) (r : Came) (b′ : List ℕ) : Type 0 where
   pub says : toldCame r ≡ cameTo (toldHow w) (x .held + length p) (going (readerOf rules) (x .met) (x .begins) 0 (drop (x .begins) (take (x .held) b ++ p)))
   pub more : x .held ≤ r .gathered
   pub within : r .gathered ≤ x .held + length p
@@ -81,13 +82,23 @@ pub record JudgesPart (rules : List ℕ) (x : Front) (w : How) (p b : List ℕ) 
 abbrev pub fits : Front → ℕ → List ℕ → List ℕ → ℕ
 fits x n p b = smallerOf (length p) (smallerOf n (length b) - x .held)
 
-pub record TakesPiece (rules : List ℕ) (x : Front) (n : ℕ) (closed : Bool) (p b : List ℕ) (r : Came) (b′ : List ℕ) : Type 0 where
+pub record TakesPiece (rules : Rules) (x : Front) (n : ℕ) (closed : Bool) (p b : List ℕ) (r : Came) (b′ : List ℕ) : Type 0 where
   pub says : toldCame r
       ≡ cameTo (howOf (eqb (x .held + fits x n p b) n) (ltb (fits x n p b) (length p)) closed) (x .held + fits x n p b) (going (readerOf rules) (x .met) (x .begins) 0 (drop (x .begins) (take (x .held) b ++ take (fits x n p b) p)))
   pub left : b′ ≡ over (take (r .gathered) (take (x .held) b ++ p)) b
 
 -- ---- a whole call, where there is no answer yet
 
-pub record Gathers (rules : List ℕ) (c : Connection) (p : List ℕ) (closed : Bool) (b : List ℕ) (r : Came) (b′ : List ℕ) : Type 0 where
+-- by the records alone
+pub record Gathers (rules : Rules) (c : Connection) (p : List ℕ) (closed : Bool) (b : List ℕ) (r : Came) (b′ : List ℕ) : Type 0 where
+  pub says : toldCame r ≡ gathers (readerOf rules) (toldConnection c) b (record { piece = p; closed = closed })
+  pub left : b′ ≡ over (take (r .gathered) (joined (toldConnection c) b (record { piece = p; closed = closed }))) b
+
+-- .. and after the end record
+pub record Comes (rules : Rules) (c : Connection) (p : List ℕ) (closed : Bool) (b : List ℕ) (r : Came) (b′ : List ℕ) : Type 0 where
   pub says : toldCame r ≡ comes (readerOf rules) (toldConnection c) b (record { piece = p; closed = closed })
   pub left : b′ ≡ over (take (r .gathered) (joined (toldConnection c) b (record { piece = p; closed = closed }))) b
+
+-- the entries of a reader in the connection's profile
+abbrev pub rulesOf : Connection → List ℕ → Rules
+rulesOf c entries = record { profile = c .profile; entries = entries }

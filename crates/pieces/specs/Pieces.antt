@@ -1,4 +1,4 @@
--- A read that is fed as the line delivers: 02, order 1, "Feed it as the line delivers", and order 3 for what was offered. Sentences in quotes are order 1's.
+-- A read that is fed as the line delivers: 02, order 1, "Feed it as the line delivers", order 3 for what was offered, and order 5 for the profile. Sentences in quotes are order 1's where no other is named.
 use Prim.Native.Nat.{ℕ, zero, suc, _+_}
 use mathlib.Core.Path.{_≡_}
 use mathlib.Core.List.{List, [], _∷_, _++_}
@@ -11,7 +11,8 @@ use Rattle.record.specs.Record.{size}
 use Rattle.walk.specs.Walk.{Reader}
 use Rattle.walk.specs.Judge as judge
 use Rattle.walk.specs.Judge.{Terms, roomFor, Judge, readBy}
-use Rattle.walk.specs.Met.{Passing, halts, on, passing}
+use Rattle.layout.specs.declared.Profile.{Profile}
+use Rattle.walk.specs.Met.{Passing, halts, on, passing, ends}
 use Rattle.pieces.specs.declared.Connection.{Connection}
 use Rattle.pieces.specs.declared.State.{State}
 use Rattle.pieces.specs.declared.State.the-variants as state
@@ -25,6 +26,8 @@ pub data Standing : Type 0 where
   refused : Refused → Standing
 
 pub record Line : Type 0 where
+  -- how the message is read
+  pub profile : Profile
   -- after how many bytes the message is cut
   pub limit : ℕ
   -- how many bytes of it are gathered, in the front of the buffer
@@ -36,8 +39,8 @@ pub record Line : Type 0 where
   pub standing : Standing
 
 -- "start a read"
-abbrev pub started : ℕ → Line
-started n = record { limit = n; gathered = 0; begins = 0; met = 0; standing = pending }
+abbrev pub started : Profile → ℕ → Line
+started P n = record { profile = P; limit = n; gathered = 0; begins = 0; met = 0; standing = pending }
 
 -- 9: "a connection record that counts more bytes than the buffer or the limit"
 unfoldable pub broken : Line → List ℕ → Bool
@@ -88,9 +91,9 @@ going R met at zero (b ∷ s) =
 
 -- ---- what a piece leads to, where there is no answer yet
 
--- the read waits; a byte that it needs has no room; or it is decided
+-- the read waits; a byte that it needs has no room; a byte follows the end record, where none may; or it is decided
 pub data How : Type 0 where
-  waiting noRoom decided : How
+  waiting noRoom followed decided : How
 
 -- where no whole record decides: a byte more has no room; "the limit or the close cuts" the record that stands last; or the read waits
 unfoldable pub otherwise : Line → List ℕ → Brought → How
@@ -113,14 +116,37 @@ cameTo how n (decides at met through) = record { gathered = through; begins = at
 abbrev pub beginsAt : Line → ℕ
 beginsAt c = cond (ltb (c .gathered) (c .begins)) (c .gathered) (c .begins)
 
+-- by the records alone
+unfoldable pub gathers : Reader → Line → List ℕ → Brought → Came
+gathers R c b h = cameTo (otherwise c b h) (length (fitting c b h)) (going R (c .met) (beginsAt c) 0 (drop (beginsAt c) (fitting c b h)))
+
+-- 02, order 5: "the strict one answers after its end record only when a byte inside the limit follows, or the limit or the close comes": through the end record there are `to` bytes,
+-- of so many that have come inside the limit n
+unfoldable pub howAfter : ℕ → ℕ → Bool → ℕ → How
+howAfter n long closed to = cond (ltb to long) followed (cond (eqb to n || closed) decided waiting)
+
+abbrev pub isDecided : How → Bool
+isDecided waiting = false
+isDecided noRoom = false
+isDecided followed = false
+isDecided decided = true
+
+-- x, or that, where the record that decided ends the message and nothing may follow; s are the bytes through it
+unfoldable pub afterEnd : Reader → ℕ → ℕ → Bool → List ℕ → Came → Came
+afterEnd R n long closed s x =
+    cond (R .final && isDecided (x .how) && ends R (drop (x .begins) s))
+    (record { gathered = x .gathered; begins = x .begins; met = x .met; how = howAfter n long closed (x .gathered) })
+    x
+
 unfoldable pub comes : Reader → Line → List ℕ → Brought → Came
-comes R c b h = cameTo (otherwise c b h) (length (fitting c b h)) (going R (c .met) (beginsAt c) 0 (drop (beginsAt c) (fitting c b h)))
+comes R c b h =
+    afterEnd R (c .limit) (length (inside c b h)) (h .closed) (take (gathers R c b h .gathered) (joined c b h)) (gathers R c b h)
 
 -- ---- the answer
 
--- a sort of read: its table of kinds, its decision after the end, what its answer tells of the bytes read, and what it leaves of the lent table
+-- a sort of read: its table of kinds in each profile, its decision after the end, what its answer tells of the bytes read, and what it leaves of the lent table
 pub record Read : Type 1 where
-  pub reader : Reader
+  pub reader : Profile → Reader
   pub judging : Judge
   pub Told : Type 0
   pub tells : List ℕ → judge.Answer (judging .Q) → Told
@@ -134,20 +160,22 @@ pub data Fed (Q : Type 0 → Type 0) : Type 0 where
 abbrev pub refusedAt : {Q : Type 0 → Type 0} → ℕ → ℕ → Fed Q
 refusedAt n place = answers (judge.refused (record { number = n; beside = nothing; place = place }))
 
--- "the answer equals the whole-message reader's on the pieces joined"; 16 at the byte that has no room
-abbrev pub answerAfter : (X : Read) → ℕ → How → List ℕ → Terms → Fed (X .judging .Q)
-answerAfter X n waiting s x = none
-answerAfter X n noRoom s x = refusedAt 16 (length s)
-answerAfter X n decided s x = answers (readBy (X .reader) (X .judging) s (record { limit = n; terms = x }))
+-- "the answer equals the whole-message reader's on the pieces joined"; 16 at the byte that has no room; order 5: 18 at the byte that follows the end record
+abbrev pub answerAfter : (X : Read) → Profile → ℕ → How → List ℕ → Terms → Fed (X .judging .Q)
+answerAfter X P n waiting s x = none
+answerAfter X P n noRoom s x = refusedAt 16 (length s)
+answerAfter X P n followed s x = refusedAt 18 (length s)
+answerAfter X P n decided s x = answers (readBy (X .reader) (X .judging) s (record { profile = P; limit = n; terms = x }))
 
 -- without an answer before, under what is lent to the call that gives it: the table's room, and what was offered
 unfoldable pub firstAnswer : (X : Read) → Line → List ℕ → Brought → Terms → Fed (X .judging .Q)
-firstAnswer X c b h x = answerAfter X (c .limit) (comes (X .reader) c b h .how) (take (comes (X .reader) c b h .gathered) (joined c b h)) x
+firstAnswer X c b h x =
+    answerAfter X (c .profile) (c .limit) (comes (X .reader (c .profile)) c b h .how) (take (comes (X .reader (c .profile)) c b h .gathered) (joined c b h)) x
 
 -- "once an answer exists, later calls .. give it again": an accepted one from the bytes gathered, whatever room the table has that is lent now, since no
 -- message has more records than bytes, and whatever lists are lent now: those of the call that accepted it let in what it names. Where an accepted state was put by hand, no list is asked
 unfoldable pub again : (X : Read) → Line → List ℕ → Fed (X .judging .Q)
-again X c b = answers (readBy (X .reader) (X .judging) (take (c .gathered) b) (record { limit = c .limit; terms = roomFor (c .gathered) }))
+again X c b = answers (readBy (X .reader) (X .judging) (take (c .gathered) b) (record { profile = c .profile; limit = c .limit; terms = roomFor (c .gathered) }))
 
 abbrev pub byStanding : {A : Type 0} → Standing → A → A → (Refused → A) → A
 byStanding pending x y f = x
@@ -172,17 +200,18 @@ unfoldable pub lineAfter : (X : Read) → Line → List ℕ → Brought → Term
 lineAfter X c b h x =
     cond (isPending c b)
     (record {
+      profile = c .profile;
       limit = c .limit;
-      gathered = comes (X .reader) c b h .gathered;
-      begins = comes (X .reader) c b h .begins;
-      met = comes (X .reader) c b h .met;
+      gathered = comes (X .reader (c .profile)) c b h .gathered;
+      begins = comes (X .reader (c .profile)) c b h .begins;
+      met = comes (X .reader (c .profile)) c b h .met;
       standing = standingBy (firstAnswer X c b h x);
     })
     c
 
 -- "the buffer begins with the joined bytes through the deciding record, or until it is full, and is otherwise untouched"
 unfoldable pub bufferAfter : (X : Read) → Line → List ℕ → Brought → List ℕ
-bufferAfter X c b h = cond (isPending c b) (over (take (comes (X .reader) c b h .gathered) (joined c b h)) b) b
+bufferAfter X c b h = cond (isPending c b) (over (take (comes (X .reader (c .profile)) c b h .gathered) (joined c b h)) b) b
 
 abbrev pub filledBy : (X : Read) → Fed (X .judging .Q) → List ℕ → List ℕ
 filledBy X none t = t
@@ -221,4 +250,4 @@ toldState state.Accepted = accepted
 toldState (state.Refused r) = refused (toldRefusal r)
 
 abbrev pub toldConnection : Connection → Line
-toldConnection c = record { limit = c .limit; gathered = c .gathered; begins = c .begins; met = c .met; standing = toldState (c .state) }
+toldConnection c = record { profile = c .profile; limit = c .limit; gathered = c .gathered; begins = c .begins; met = c .met; standing = toldState (c .state) }

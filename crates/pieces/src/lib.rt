@@ -3,6 +3,7 @@
 use nts::NtsError;
 use nts::Refusal;
 use record::NtsRecord;
+use record::Profile;
 use reply::KeyExchangeResponse;
 use request::Request;
 use walk::Passed;
@@ -14,10 +15,10 @@ ghost use lib.ListN.{length, take, drop};
 ghost use lib.Dec.{ltb};
 ghost use Rattle.wire.specs.Bytes.{byteAt};
 ghost use Rattle.record.specs.Record as records;
-ghost use Rattle.walk.specs.Rules.{readerOf};
-ghost use Rattle.pieces.specs.Pieces.{started, broken, whole, going, again, held, saysOf, toldConnection};
+ghost use Rattle.walk.specs.Rules.{Rules, readerOf};
+ghost use Rattle.pieces.specs.Pieces.{started, broken, whole, going, howAfter, afterEnd, again, held, saysOf, toldConnection};
 ghost use Rattle.pieces.specs.Reads.{requestRead, toldRequest, FeedsRequest, replyRead, toldReply, FeedsReply, ofRequest, ofReply, HandsOver};
-ghost use Rattle.pieces.specs.Code.{counts, IsPending, howOf, toldHow, toldScanned, lacks, smallerOf, Fits, JudgesRest, JudgesPart, TakesPiece, Gathers, carriedBy};
+ghost use Rattle.pieces.specs.Code.{counts, IsPending, howOf, toldHow, toldCame, toldScanned, lacks, smallerOf, Fits, JudgesRest, JudgesPart, TakesPiece, Gathers, Comes, carriedBy, rulesOf};
 
 // Whether a read has come to an answer.
 pub enum State {
@@ -26,9 +27,10 @@ pub enum State {
     Refused(Refusal),
 }
 
-// What a host keeps for each line, as it got it, with the buffer: the limit, how many bytes are gathered, where the record that is being gathered begins,
+// What a host keeps for each line, as it got it, with the buffer: the profile, the limit, how many bytes are gathered, where the record that is being gathered begins,
 // which kinds were met before it, a bit each, and the answer once there is one.
 pub struct Connection {
+    pub profile: Profile,
     pub limit: u16,
     pub gathered: usize,
     pub begins: usize,
@@ -38,10 +40,11 @@ pub struct Connection {
 
 impl Connection {
     // A read that has been handed nothing.
-    pub fn start(limit: u16) -> Connection
-        ensures { λ r. ⌜ toldConnection r ≡ started limit ⌝ }
+    pub fn start(profile: Profile, limit: u16) -> Connection
+        ensures { λ r. ⌜ toldConnection r ≡ started profile limit ⌝ }
     {
         Connection {
+            profile,
             limit,
             gathered: 0,
             begins: 0,
@@ -101,10 +104,11 @@ enum Scanned {
     Decides { at: usize, met: u16, through: usize },
 }
 
-// How a read stands without an answer before: it waits, a byte that it needs has no room, or it is decided.
+// How a read stands without an answer before: it waits, a byte that it needs has no room, a byte follows the end record where none may, or it is decided.
 enum How {
     Waiting,
     NoRoom,
+    Followed,
     Decided,
 }
 
@@ -294,7 +298,7 @@ fn pending_request(
     ensures { λ r. ⌜ FeedsRequest connection (now (piece .entry)) closed (now (buffer .entry)) (now (table .entry)) r (now (buffer .exit)) (now (table .exit)) ⌝ }
 {
     let rules = request::RULES;
-    let came = gather(&rules, connection, closed, piece, buffer);
+    let came = come(&rules, connection, closed, piece, buffer);
     let how = came.how;
     match how {
         How::Waiting => FedRequest {
@@ -305,9 +309,14 @@ fn pending_request(
             connection: carried(connection, came, State::Refused(no_room(came.gathered))),
             answer: RequestAnswer::Refused(no_room(came.gathered)),
         },
+        How::Followed => FedRequest {
+            connection: carried(connection, came, State::Refused(not_allowed(came.gathered))),
+            answer: RequestAnswer::Refused(not_allowed(came.gathered)),
+        },
         How::Decided => {
             let n = came.gathered;
-            let answer = Request::parse(&buffer[0..n], connection.limit, table);
+            let profile = connection.profile;
+            let answer = Request::parse(profile, &buffer[0..n], connection.limit, table);
             match answer {
                 request::Answer::Accepted(x) => FedRequest {
                     connection: carried(connection, came, State::Accepted),
@@ -335,7 +344,7 @@ fn pending_reply(
     ensures { λ r. ⌜ FeedsReply connection (now (piece .entry)) closed (now (protocols .entry)) (now (algorithms .entry)) (now (buffer .entry)) (now (table .entry)) r (now (buffer .exit)) (now (table .exit)) ⌝ }
 {
     let rules = reply::RULES;
-    let came = gather(&rules, connection, closed, piece, buffer);
+    let came = come(&rules, connection, closed, piece, buffer);
     let how = came.how;
     match how {
         How::Waiting => FedReply {
@@ -346,10 +355,16 @@ fn pending_reply(
             connection: carried(connection, came, State::Refused(no_room(came.gathered))),
             answer: ReplyAnswer::Refused(no_room(came.gathered)),
         },
+        How::Followed => FedReply {
+            connection: carried(connection, came, State::Refused(not_allowed(came.gathered))),
+            answer: ReplyAnswer::Refused(not_allowed(came.gathered)),
+        },
         How::Decided => {
             let n = came.gathered;
             let limit = connection.limit;
+            let profile = connection.profile;
             let answer = KeyExchangeResponse::parse(
+                profile,
                 &buffer[0..n],
                 limit,
                 protocols,
@@ -374,7 +389,9 @@ fn pending_reply(
 fn carried(connection: Connection, came: Came, state: State) -> Connection
     ensures { λ r. ⌜ r ≡ carriedBy connection came state ⌝ }
 {
+    let profile = connection.profile;
     Connection {
+        profile,
         limit: connection.limit,
         gathered: came.gathered,
         begins: came.begins,
@@ -392,6 +409,16 @@ fn no_room(place: usize) -> Refusal
     }
 }
 
+// A byte that follows the end record, where none may.
+fn not_allowed(place: usize) -> Refusal
+    ensures { λ r. ⌜ r ≡ record { error = NtsError.NotAllowed; place = place } ⌝ }
+{
+    Refusal {
+        error: NtsError::NotAllowed,
+        place,
+    }
+}
+
 // ---- an answer given again
 
 // An accepted request again, from the bytes gathered: there is room for every name, since no message has more records than bytes.
@@ -400,7 +427,8 @@ fn request_again(connection: Connection, buffer: &[u8]) -> RequestAnswer
     ensures { λ r. ⌜ toldRequest r ≡ saysOf requestRead (held (toldConnection connection) (now (buffer .entry))) (again requestRead (toldConnection connection) (now (buffer .entry))) ⌝ }
 {
     let n = connection.gathered;
-    let judged = Request::judge(&buffer[0..n], connection.limit, n);
+    let profile = connection.profile;
+    let judged = Request::judge(profile, &buffer[0..n], connection.limit, n);
     let answer = judged.answer;
     match answer {
         request::Answer::Accepted(x) => RequestAnswer::Accepted(x),
@@ -415,10 +443,12 @@ fn reply_again(connection: Connection, buffer: &[u8]) -> ReplyAnswer
 {
     let n = connection.gathered;
     let limit = connection.limit;
-    let named = KeyExchangeResponse::named(&buffer[0..n], limit);
+    let profile = connection.profile;
+    let named = KeyExchangeResponse::named(profile, &buffer[0..n], limit);
     let protocols = [named.protocol.0];
     let algorithms = [named.algorithm.0];
     let judged = KeyExchangeResponse::judge(
+        profile,
         &buffer[0..n],
         limit,
         &protocols[0..1],
@@ -434,7 +464,85 @@ fn reply_again(connection: Connection, buffer: &[u8]) -> ReplyAnswer
 
 // ---- gathering
 
-// Takes from the piece what the read needs: its records are judged, one after the other, and stored through the one that decides.
+// Takes from the piece what the read needs, and says what it comes to: an end record behind which nothing may follow decides with a byte that follows, the limit or the close.
+fn come(
+    rules: &[u8; 15],
+    connection: Connection,
+    closed: bool,
+    piece: &[u8],
+    buffer: &mut [u8],
+) -> Came
+    requires { ⌜ broken (toldConnection connection) (now buffer) ≡ false ⌝ }
+    ensures { λ r. ⌜ Comes (rulesOf connection (now (rules .entry))) connection (now (piece .entry)) closed (now (buffer .entry)) r (now (buffer .exit)) ⌝ }
+{
+    let held = connection.gathered;
+    let limit = connection.limit as usize;
+    let long = held + smaller(piece.len(), limit - held);
+    let came = gather(rules, connection, closed, piece, buffer);
+    let n = came.gathered;
+    let profile = connection.profile;
+    after_end(
+        profile,
+        rules,
+        connection.limit,
+        long,
+        closed,
+        came,
+        &buffer[0..n],
+    )
+}
+
+// What was gathered, or where it goes through an end record behind which nothing may follow, what comes after that.
+fn after_end(
+    profile: Profile,
+    rules: &[u8; 15],
+    limit: u16,
+    long: usize,
+    closed: bool,
+    came: Came,
+    front: &[u8],
+) -> Came
+    ensures { λ r. ⌜ toldCame r ≡ afterEnd (readerOf (record { profile = profile; entries = now (rules .entry) })) limit long closed (now (front .entry)) (toldCame came) ⌝ }
+{
+    if !profile.is_final() {
+        return came;
+    }
+    let how = came.how;
+    match how {
+        How::Waiting => came,
+        How::NoRoom => came,
+        How::Followed => came,
+        How::Decided => {
+            if !walk::is_end(profile, rules, front, came.begins) {
+                return came;
+            }
+            Came {
+                gathered: came.gathered,
+                begins: came.begins,
+                met: came.met,
+                how: how_after(limit, long, closed, came.gathered),
+            }
+        }
+    }
+}
+
+// How the read stands after its end record, through which there are `through` bytes.
+fn how_after(limit: u16, long: usize, closed: bool, through: usize) -> How
+    ensures { λ r. ⌜ toldHow r ≡ howAfter limit long closed through ⌝ }
+{
+    if through < long {
+        return How::Followed;
+    }
+    if through == limit as usize {
+        return How::Decided;
+    }
+    if closed {
+        return How::Decided;
+    }
+    How::Waiting
+}
+
+// Takes from the piece what its records need: they are judged, one after the other, and stored through the one that decides.
 fn gather(
     rules: &[u8; 15],
     connection: Connection,
@@ -443,11 +551,12 @@ fn gather(
     buffer: &mut [u8],
 ) -> Came
     requires { ⌜ broken (toldConnection connection) (now buffer) ≡ false ⌝ }
-    ensures { λ r. ⌜ Gathers (now (rules .entry)) connection (now (piece .entry)) closed (now (buffer .entry)) r (now (buffer .exit)) ⌝ }
+    ensures { λ r. ⌜ Gathers (rulesOf connection (now (rules .entry))) connection (now (piece .entry)) closed (now (buffer .entry)) r (now (buffer .exit)) ⌝ }
 {
     let held = connection.gathered;
     let start = smaller(connection.begins, held);
-    let scanned = scan(rules, &buffer[start..held], connection.met);
+    let profile = connection.profile;
+    let scanned = scan(profile, rules, &buffer[start..held], connection.met);
     match scanned {
         Scanned::Decides { at, met, through } => Came {
             gathered: start + through,
@@ -461,13 +570,22 @@ fn gather(
                 begins: start + at,
                 met,
             };
-            take_piece(rules, front, connection.limit, closed, piece, buffer)
+            take_piece(
+                profile,
+                rules,
+                front,
+                connection.limit,
+                closed,
+                piece,
+                buffer,
+            )
         }
     }
 }
 
 // The same where the record at the front's end is not whole.
 fn take_piece(
+    profile: Profile,
     rules: &[u8; 15],
     front: Front,
     limit: u16,
@@ -476,13 +594,13 @@ fn take_piece(
     buffer: &mut [u8],
 ) -> Came
     requires { ⌜ Fits front (now buffer) × (front .held ≤ limit) ⌝ }
-    ensures { λ r. ⌜ TakesPiece (now (rules .entry)) front limit closed (now (piece .entry)) (now (buffer .entry)) r (now (buffer .exit)) ⌝ }
+    ensures { λ r. ⌜ TakesPiece (record { profile = profile; entries = now (rules .entry) }) front limit closed (now (piece .entry)) (now (buffer .entry)) r (now (buffer .exit)) ⌝ }
 {
     let held = front.held;
     let n = smaller(piece.len(), smaller(limit as usize, buffer.len()) - held);
     let how = how_of(held + n == limit as usize, n < piece.len(), closed);
     let part = &piece[0..n];
-    let came = judge_part(rules, front, how, part, buffer);
+    let came = judge_part(profile, rules, front, how, part, buffer);
     let m = came.gathered - held;
     wire::put_bytes(&part[0..m], &mut buffer[held..]);
     came
@@ -505,14 +623,21 @@ fn how_of(reached: bool, more: bool, closed: bool) -> How
 }
 
 // The records of a part that fits. One that began before it is put together in the buffer.
-fn judge_part(rules: &[u8; 15], front: Front, how: How, part: &[u8], buffer: &mut [u8]) -> Came
+fn judge_part(
+    profile: Profile,
+    rules: &[u8; 15],
+    front: Front,
+    how: How,
+    part: &[u8],
+    buffer: &mut [u8],
+) -> Came
     requires { ⌜ Fits front (now buffer) × (front .held + length (now part) ≤ length (now buffer)) × (front .held + length (now part) ≤ 65535) ⌝ }
-    ensures { λ r. ⌜ JudgesPart (now (rules .entry)) front how (now (part .entry)) (now (buffer .entry)) r (now (buffer .exit)) ⌝ }
+    ensures { λ r. ⌜ JudgesPart (record { profile = profile; entries = now (rules .entry) }) front how (now (part .entry)) (now (buffer .entry)) r (now (buffer .exit)) ⌝ }
 {
     let held = front.held;
     let begins = front.begins;
     if begins == held {
-        return judge_rest(rules, front, how, part, 0);
+        return judge_rest(profile, rules, front, how, part, 0);
     }
     let n = lacking(buffer, held, begins, part);
     if part.len() < n {
@@ -525,7 +650,7 @@ fn judge_part(rules: &[u8; 15], front: Front, how: How, part: &[u8], buffer: &mu
     }
     let end = held + n;
     wire::put_bytes(&part[0..n], &mut buffer[held..]);
-    let passed = walk::pass(rules, &buffer[0..end], begins, front.met);
+    let passed = walk::pass(profile, rules, &buffer[0..end], begins, front.met);
     let Passed::On(met) = passed else {
         return Came {
             gathered: end,
@@ -539,17 +664,24 @@ fn judge_part(rules: &[u8; 15], front: Front, how: How, part: &[u8], buffer: &mu
         begins: end,
         met,
     };
-    judge_rest(rules, front, how, part, n)
+    judge_rest(profile, rules, front, how, part, n)
 }
 
 // The records of a part from a place of it on.
-fn judge_rest(rules: &[u8; 15], front: Front, how: How, part: &[u8], from: usize) -> Came
+fn judge_rest(
+    profile: Profile,
+    rules: &[u8; 15],
+    front: Front,
+    how: How,
+    part: &[u8],
+    from: usize,
+) -> Came
     requires { ⌜ (from ≤ length (now part)) × (front .held + length (now part) ≤ 65535) ⌝ }
-    ensures { λ r. ⌜ JudgesRest (now (rules .entry)) front how (now (part .entry)) from r ⌝ }
+    ensures { λ r. ⌜ JudgesRest (record { profile = profile; entries = now (rules .entry) }) front how (now (part .entry)) from r ⌝ }
 {
     let held = front.held;
     let base = held + from;
-    let scanned = scan(rules, &part[from..], front.met);
+    let scanned = scan(profile, rules, &part[from..], front.met);
     match scanned {
         Scanned::Decides { at, met, through } => Came {
             gathered: base + through,
@@ -597,8 +729,8 @@ fn joined_at(buffer: &[u8], held: usize, part: &[u8], at: usize) -> u8
 }
 
 // The walk over bytes that begin with a record, as far as its records stand whole.
-fn scan(rules: &[u8; 15], bytes: &[u8], met: u16) -> Scanned
-    ensures { λ r. ⌜ toldScanned r ≡ going (readerOf (now (rules .entry))) met 0 0 (now (bytes .entry)) ⌝ }
+fn scan(profile: Profile, rules: &[u8; 15], bytes: &[u8], met: u16) -> Scanned
+    ensures { λ r. ⌜ toldScanned r ≡ going (readerOf (record { profile = profile; entries = now (rules .entry) })) met 0 0 (now (bytes .entry)) ⌝ }
 {
     let mut at: usize = 0;
     let mut seen = met;
@@ -607,7 +739,7 @@ fn scan(rules: &[u8; 15], bytes: &[u8], met: u16) -> Scanned
         if size == 0 {
             return Scanned::Waits { at, met: seen };
         }
-        let passed = walk::pass(rules, bytes, at, seen);
+        let passed = walk::pass(profile, rules, bytes, at, seen);
         let Passed::On(more) = passed else {
             return Scanned::Decides {
                 at,

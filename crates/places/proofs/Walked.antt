@@ -17,7 +17,9 @@ use Rattle.wire.proofs.Bytes.{number-take}
 use Rattle.record.specs.Record.{kind, critical, size, there}
 use Rattle.walk.specs.Walk.{Act, notes, Reader, Sighting, Outcome, ended, Step, stops, goes, meet, judge, step, actIn, walk}
 use Rattle.walk.specs.Judge.{ofKind}
-use Rattle.walk.specs.Table.{known, actBy}
+use Rattle.walk.specs.Table.{actBy}
+use Rattle.layout.specs.Profile.{asksOf, knows, allows}
+use Rattle.layout.specs.declared.Profile.{Profile}
 use Rattle.walk.proofs.Faultless.{faultless-whole}
 use Rattle.walk.proofs.Meets.{place-between}
 use Rattle.walk.proofs.Noted.{Went, step-went, step-ended, kind-append}
@@ -29,10 +31,11 @@ use Rattle.places.proofs.Filling.{not-many}
 front-cut : (n : ℕ) (m : List ℕ) → take (n - 0) (drop 0 m) ≡ take n m
 front-cut n m = rw sub-zero
 
--- a table f over the known kinds always notes a kind that it has as noted
-pub table-notes : (f : ℕ → List ℕ → Act) (k : ℕ) → (k ≡ 0 → ⊥) → known k ≡ true → ((b : List ℕ) → f k b ≡ notes) → (bit : Bool) (b : List ℕ) → actBy f k bit b ≡ notes
+-- a table f over the known kinds always notes a kind that it has as noted, where the profile asks nothing more of it
+pub table-notes : (P : Profile) (f : ℕ → List ℕ → Act) (k : ℕ) → (k ≡ 0 → ⊥) → knows P k ≡ true → ((bit : Bool) (b : List ℕ) → allows (asksOf P k) bit b ≡ true) → ((b : List ℕ) → f k b ≡ notes)
+    → (bit : Bool) (b : List ℕ) → actBy P f k bit b ≡ notes
 unfolding actBy
-table-notes f k other is-known noted bit b = rw (is-known, ne-eqb k 0 other) (noted b)
+table-notes P f k other is-known plain noted bit b = rw (plain bit b, is-known, ne-eqb k 0 other) (noted b)
 
 -- a header that is taken is read as it is
 module _ (n : ℕ) (t : List ℕ) (h : 4 ≤ n) where

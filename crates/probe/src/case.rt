@@ -85,6 +85,15 @@ pub(super) fn rest(s: &[u8], at: usize) -> &[u8] {
     &s[0..0]
 }
 
+// Whether a case has so many bytes, and at its front a limit that fits sixteen bits.
+pub(super) fn is_limited(case: &[u8], least: usize) -> bool {
+    (least <= case.len()) & (number16(case, 0) == 0)
+}
+
+pub(super) fn limit_of(case: &[u8]) -> u16 {
+    number16(case, 2)
+}
+
 // Whether one of the three flags is set: 1, 2 or 4.
 pub(super) fn flag(flags: u8, bit: u8) -> bool {
     (flags & bit) == bit

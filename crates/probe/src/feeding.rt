@@ -1,5 +1,5 @@
-// The ops of messages that are fed in pieces: f for a request, F for a reply. The table has twice the cells that are lent: the second half keeps what the first
-// answer left in the first.
+// The ops of messages that are fed in pieces: f for a request, F for a reply, t and T for either in the strict profile. The table has twice the cells that are lent: the
+// second half keeps what the first answer left in the first.
 use super::case;
 use super::lent;
 use super::replies;
@@ -11,6 +11,7 @@ use pieces::Connection;
 use pieces::Expected;
 use pieces::Handed;
 use pieces::State;
+use record::Profile;
 use reply::KeyExchangeResponse;
 
 // Where the first piece is, behind the number of pieces.
@@ -34,8 +35,9 @@ pub struct Compared {
     pub same: bool,
 }
 
-// Op f: a limit, a number of cells, the buffer's length, whether the line is closed, and the pieces behind their number.
+// Ops f and t: a limit, a number of cells, the buffer's length, whether the line is closed, and the pieces behind their number.
 pub(super) fn of_request(
+    profile: Profile,
     case: &[u8],
     dst: &mut [u8],
     table: &mut [u16],
@@ -44,11 +46,22 @@ pub(super) fn of_request(
 ) -> usize {
     let none = [0u16; 1];
     let list = &none[0..0];
-    answer(Expected::Request, list, list, case, dst, table, out, at)
+    answer(
+        profile,
+        Expected::Request,
+        list,
+        list,
+        case,
+        dst,
+        table,
+        out,
+        at,
+    )
 }
 
-// Op F: the two lists that were offered, and the same.
+// Ops F and T: the two lists that were offered, and the same.
 pub(super) fn of_reply(
+    profile: Profile,
     case: &[u8],
     dst: &mut [u8],
     table: &mut [u16],
@@ -62,6 +75,7 @@ pub(super) fn of_reply(
     let m = case::put_cells(case::offered(case, second), &mut algorithms);
     let fed = case::rest(case, case::behind_offered(case, second));
     answer(
+        profile,
         Expected::Reply,
         &protocols[0..n],
         &algorithms[0..m],
@@ -74,6 +88,7 @@ pub(super) fn of_reply(
 }
 
 fn answer(
+    profile: Profile,
     expected: Expected,
     protocols: &[u16],
     algorithms: &[u16],
@@ -89,6 +104,7 @@ fn answer(
         if cells <= table.len() {
             if room <= dst.len() {
                 return put_fed(
+                    profile,
                     expected,
                     protocols,
                     algorithms,
@@ -106,10 +122,7 @@ fn answer(
 
 // Whether a case has a limit of sixteen bits, closes the line or not, and has all of its pieces and no more.
 fn is_whole(case: &[u8]) -> bool {
-    if case.len() < PIECES {
-        return false;
-    }
-    (case::number16(case, 0) == 0)
+    case::is_limited(case, PIECES)
         & (wire::byte_at(case, 10) < 2)
         & case::are_counted(case::rest(case, PIECES), pieces_of(case))
 }
@@ -119,6 +132,7 @@ fn pieces_of(case: &[u8]) -> u16 {
 }
 
 fn put_fed(
+    profile: Profile,
     expected: Expected,
     protocols: &[u16],
     algorithms: &[u16],
@@ -128,13 +142,22 @@ fn put_fed(
     out: &mut [u8],
     at: usize,
 ) -> usize {
-    let fed = feed(expected, protocols, algorithms, case, buffer, table);
+    let fed = feed(
+        profile,
+        expected,
+        protocols,
+        algorithms,
+        case,
+        buffer,
+        table,
+    );
     put_line(case, fed, buffer, table, out, at)
 }
 
 // ---- the calls
 
 fn feed(
+    profile: Profile,
     expected: Expected,
     protocols: &[u16],
     algorithms: &[u16],
@@ -144,14 +167,27 @@ fn feed(
 ) -> Fed {
     lent::fill(buffer);
     lent::fill_cells(table);
-    let calls = pieces_of(case) as usize + wire::byte_at(case, 10) as usize;
-    feed_each(expected, protocols, algorithms, calls, case, buffer, table)
+    feed_each(
+        begun(profile, case),
+        expected,
+        protocols,
+        algorithms,
+        calls_of(case),
+        case,
+        buffer,
+        table,
+    )
+}
+
+// How many calls there are: the pieces, and the close.
+fn calls_of(case: &[u8]) -> usize {
+    pieces_of(case) as usize + wire::byte_at(case, 10) as usize
 }
 
 // Before the first call.
-fn begun(case: &[u8]) -> Fed {
+fn begun(profile: Profile, case: &[u8]) -> Fed {
     Fed {
-        connection: Connection::start(case::number16(case, 2)),
+        connection: Connection::start(profile, case::limit_of(case)),
         answer: Answer::Waiting,
         call: 0,
         intact: true,
@@ -161,6 +197,7 @@ fn begun(case: &[u8]) -> Fed {
 
 // Every call, also those after an answer.
 fn feed_each(
+    begun: Fed,
     expected: Expected,
     protocols: &[u16],
     algorithms: &[u16],
@@ -170,7 +207,7 @@ fn feed_each(
     table: &mut [u16],
 ) -> Fed {
     let mut i = 0;
-    let mut fed = begun(case);
+    let mut fed = begun;
     while i < calls {
         fed = feed_next(expected, protocols, algorithms, i, case, fed, buffer, table);
         i += 1;
@@ -265,7 +302,10 @@ fn is_waiting(answer: Answer) -> bool {
 fn is_same(a: Connection, b: Connection) -> bool {
     let s = a.state;
     let t = b.state;
-    (a.limit == b.limit)
+    let p = a.profile;
+    let q = b.profile;
+    (p.is_final() == q.is_final())
+        & (a.limit == b.limit)
         & (a.gathered == b.gathered)
         & (a.begins == b.begins)
         & (a.met == b.met)

@@ -17,8 +17,12 @@ const WALKED: usize = 15;
 
 // Op v: a limit, and the bytes.
 pub(super) fn walked(case: &[u8], out: &mut [u8], at: usize) -> usize {
-    if is_limited(case, 4) {
-        return put_finding(out, at, Request::walk(case::rest(case, 4), limit_of(case)));
+    if case::is_limited(case, 4) {
+        return put_finding(
+            out,
+            at,
+            Request::walk(case::rest(case, 4), case::limit_of(case)),
+        );
     }
     text::bad_case(out, at)
 }
@@ -26,7 +30,7 @@ pub(super) fn walked(case: &[u8], out: &mut [u8], at: usize) -> usize {
 // Op V: a limit, a number of cells, which number is replaced, its value, the bytes that are walked behind their count, and the message.
 pub(super) fn decided(case: &[u8], table: &mut [u16], out: &mut [u8], at: usize) -> usize {
     let cells = case::number16(case, 4) as usize;
-    if is_limited(case, message_at(case)) & fits(which_of(case), value_of(case)) {
+    if case::is_limited(case, message_at(case)) & fits(which_of(case), value_of(case)) {
         if cells <= table.len() {
             return put_decided(case, &mut table[0..cells], out, at);
         }
@@ -35,15 +39,6 @@ pub(super) fn decided(case: &[u8], table: &mut [u16], out: &mut [u8], at: usize)
 }
 
 // ---- what a case holds
-
-// Whether a case has so many bytes, and a limit of sixteen bits.
-fn is_limited(case: &[u8], least: usize) -> bool {
-    (least <= case.len()) & (case::number16(case, 0) == 0)
-}
-
-fn limit_of(case: &[u8]) -> u16 {
-    case::number16(case, 2)
-}
 
 // Which number of a finding is replaced: none, the limit, a count, the place or the reason.
 fn which_of(case: &[u8]) -> u8 {
@@ -129,7 +124,7 @@ fn put_decided(case: &[u8], table: &mut [u16], out: &mut [u8], at: usize) -> usi
 
 // The finding of the bytes that are walked, with its number replaced.
 fn found(case: &[u8]) -> Finding {
-    let finding = Request::walk(case::counted(case, WALKED), limit_of(case));
+    let finding = Request::walk(case::counted(case, WALKED), case::limit_of(case));
     replaced(finding, case)
 }
 

@@ -13,6 +13,7 @@ mod text;
 mod whole;
 mod writing;
 
+use record::Profile;
 ghost use Prim.Native.Nat.{_<_};
 
 struct Head {
@@ -37,9 +38,11 @@ fn answer(
 ) -> usize {
     let cells = table.len() / 2;
     match op {
-        b'f' => feeding::of_request(case, dst, table, out, at),
-        b'F' => feeding::of_reply(case, dst, table, out, at),
-        b'q' | b'Q' | b'L' | b'V' | b'y' | b'l' => {
+        b'f' => feeding::of_request(Profile::Usual, case, dst, table, out, at),
+        b't' => feeding::of_request(Profile::Strict, case, dst, table, out, at),
+        b'F' => feeding::of_reply(Profile::Usual, case, dst, table, out, at),
+        b'T' => feeding::of_reply(Profile::Strict, case, dst, table, out, at),
+        b'q' | b'Q' | b'L' | b'V' | b'y' | b'l' | b's' | b'S' => {
             whole::answer(op, case, &mut table[0..cells], out, at)
         }
         b'w' | b'W' | b'X' => writing::answer(op, case, dst, out, at),

@@ -1,7 +1,8 @@
-// The answer to a reply: ops y, l and F.
+// The answer to a reply: ops y, l, S, F and T.
 use super::case;
 use super::lent;
 use super::text;
+use record::Profile;
 use reply::Answer;
 use reply::KeyExchangeResponse;
 use reply::Port;
@@ -56,8 +57,9 @@ pub(super) fn put_reply(
     lent::put_entries(out, to, b" cookies ", message, table, reply.cookies)
 }
 
-// The two lists that were offered and a message, under a limit, with a table that was filled for the call.
+// The two lists that were offered and a message, in a profile under a limit, with a table that was filled for the call.
 pub(super) fn put_answer(
+    profile: Profile,
     case: &[u8],
     limit: u16,
     table: &mut [u16],
@@ -67,19 +69,27 @@ pub(super) fn put_answer(
     let second = case::behind_offered(case, 0);
     let behind = case::behind_offered(case, second);
     if behind <= case.len() {
-        let answer = read(case, second, behind, limit, table);
+        let answer = read(profile, case, second, behind, limit, table);
         return put_read(out, at, &case[behind..], table, answer);
     }
     text::bad_case(out, at)
 }
 
 // What is read where the second list and the message are at these places of a case.
-fn read(case: &[u8], second: usize, behind: usize, limit: u16, table: &mut [u16]) -> Answer {
+fn read(
+    profile: Profile,
+    case: &[u8],
+    second: usize,
+    behind: usize,
+    limit: u16,
+    table: &mut [u16],
+) -> Answer {
     let mut protocols = [0u16; 255];
     let mut algorithms = [0u16; 255];
     let n = case::put_cells(case::offered(case, 0), &mut protocols);
     let m = case::put_cells(case::offered(case, second), &mut algorithms);
     KeyExchangeResponse::parse(
+        profile,
         case::rest(case, behind),
         limit,
         &protocols[0..n],

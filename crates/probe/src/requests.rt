@@ -1,4 +1,4 @@
-// The answer to a request: ops q, Q, L, f and V.
+// The answer to a request: ops q, Q, L, s, f, t and V.
 use super::lent;
 use super::records;
 use super::text;
@@ -6,6 +6,7 @@ use nts::AeadAlgorithm;
 use nts::NextProtocol;
 use record::NtsRecord;
 use record::Part;
+use record::Profile;
 use request::Answer;
 use request::Request;
 
@@ -140,15 +141,16 @@ pub(super) fn entries(request: Request) -> usize {
     }
 }
 
-// A message under a limit, with a table that was filled for the call.
+// A message in a profile under a limit, with a table that was filled for the call.
 pub(super) fn put_answer(
+    profile: Profile,
     message: &[u8],
     limit: u16,
     table: &mut [u16],
     out: &mut [u8],
     at: usize,
 ) -> usize {
-    let answer = Request::parse(message, limit, table);
+    let answer = Request::parse(profile, message, limit, table);
     put_told(out, at, message, table, answer)
 }
 

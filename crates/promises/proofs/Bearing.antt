@@ -1,6 +1,6 @@
--- Laws of refusing with exactly these numbers: by tests, with a room that must hold what is written, and from one sort of answer or input to another.
+-- Laws of refusing with exactly these numbers: by tests, with a room that must hold what is written, and from one sort of input to another.
 -- Assumes nothing.
-use mathlib.Core.Path.{_≡_, refl, sym, subst, _∙_}
+use mathlib.Core.Path.{_≡_, refl, subst}
 use mathlib.Core.List.{List, [], _∷_, _++_}
 use mathlib.Core.Bool.{Bool, true, false, cond}
 use Prim.Native.Nat.{ℕ, _<_}
@@ -99,10 +99,7 @@ room-alone k room x h = record {
   each = ((x, rw (lt-ltb (room x) (k x) h)), tt);
 }
 
--- ---- another sort of answer, or of input
-
-pub alike : {X : Type 0} {f g : X → Number} (l : List ℕ) → ((x : X) → g x ≡ f x) → Exactly f l → Exactly g l
-alike {f = f} {g = g} l same p = record { only = λ x n e. p .only x n (sym (same x) ∙ e); each = all-map (Shown f) (Shown g) l (λ n q. (q .0, same (q .0) ∙ q .1)) (p .each) }
+-- ---- another sort of input
 
 -- examples of one sort are examples of a wider one
 pub wider : {X Y : Type 0} (f : X → Number) (g : Y → X) (l : List ℕ) → ((x : X) → Only l (f x)) → Exactly (λ y. f (g y)) l → Exactly f l

@@ -1,4 +1,4 @@
--- What joined bytes come to, told of them alone, for a reader whose walk stops where `going` comes to: one of four ways, each with what it leaves.
+-- What joined bytes come to, told of them alone, for a reader whose walk stops where `going` comes to: one of seven ways, each with what it leaves.
 -- Assumes nothing.
 use mathlib.Core.Path.{_≡_, refl, sym, ap, _∙_, subst}
 use mathlib.Core.List.{List, [], _∷_, _++_}
@@ -10,14 +10,18 @@ use lib.Seq.{drop-append-le, length-take-le, take-all, take-take}
 use lib.Dec.{leb, ltb, eqb}
 use borrow.Author.Tests.{ltb-true, ltb-false, lt-ltb, le-ltb, leb-true, leb-false, eq-eqb, ne-eqb}
 use Rattle.record.specs.Record.{size}
-use Rattle.walk.specs.Walk.{Reader, walk}
+use Rattle.walk.specs.Walk.{Reader, Sighting, Outcome, stopped, ended, walk, walked, behind}
+use Rattle.walk.specs.Met.{ends}
 use Rattle.walk.specs.Found.{placeOf}
+use Rattle.walk.proofs.Passing.{reached}
 use Rattle.walk.proofs.Chunks.{size-append}
 use Rattle.pieces.specs.Pieces as pieces
-use Rattle.pieces.specs.Pieces.{Going, waits, decides, whole, going, How, waiting, noRoom, Came, cameTo}
-use Rattle.promises.specs.Pieces.{decided, through, lacksRoom, undecided, heldOn}
-use Rattle.pieces.proofs.Going.{long-whole, by-records, Reaches, going-reaches, going-waits-more, going-decides-more}
-use Rattle.pieces.proofs.Stopping.{Stops}
+use Rattle.pieces.specs.Pieces.{Going, waits, decides, whole, going, How, waiting, noRoom, followed, Came, cameTo, howAfter, isDecided, afterEnd}
+use Rattle.promises.specs.Pieces.{decided, through, lacksRoom, endsAt, lasts, undecided, heldOn}
+use Rattle.pieces.proofs.Going.{long-whole, by-records, Reaches, going-reaches, going-waits, going-waits-more, going-decides-more, decides-again}
+use Rattle.pieces.proofs.Stopping.{Stops, ends-more, partial-ends}
+use Rattle.pieces.proofs.Inside.{after-gathered}
+use Rattle.pieces.proofs.Ending.{after-other}
 
 -- ---- fronts of a list
 
@@ -108,19 +112,52 @@ past R s t a m b k to e q = go (leb (a + 4) (length s)) refl
         omega (arith, far, short (size (drop a (s ++ t))) (sym z) l)
     go false h = omega (arith, far, leb-false (a + 4) (length s) h)
 
+-- a record that decides is whole
+decides-whole : (R : Reader) (s : List ℕ) (a m to : ℕ) → going R 0 0 0 s ≡ decides a m to → whole (drop a s) ≡ true
+decides-whole R s a m to e = go (whole (drop a s)) refl
+  where
+    go : (t : Bool) → whole (drop a s) ≡ t → whole (drop a s) ≡ true
+    go true h = h
+    go false h =
+        let z : isDecides (decides a m to) ≡ false = ap isDecides (sym (decides-again R s a m to e) ∙ going-waits R m a (drop a s) h) in
+        absurd (true≢false z)
+
 -- ---- the ways
 
 unfoldable pub howOn : ℕ → ℕ → List ℕ → Bool → How
 howOn n room j closed = cond (ltb room (length (take n j))) noRoom (cond (eqb (length (take n j)) n || closed) pieces.decided waiting)
 
--- what the bytes j come to under the limit n and with so much room
+-- what the bytes j come to under the limit n and with so much room, by their records alone ..
+unfoldable pub gatheredOn : Reader → ℕ → ℕ → List ℕ → Bool → Came
+gatheredOn R n room j closed = cameTo (howOn n room j closed) (length (fit n room j)) (going R 0 0 0 (fit n room j))
+
+-- .. and where nothing may follow the end record
 unfoldable pub cameOn : Reader → ℕ → ℕ → List ℕ → Bool → Came
-cameOn R n room j closed = cameTo (howOn n room j closed) (length (fit n room j)) (going R 0 0 0 (fit n room j))
+cameOn R n room j closed = afterEnd R n (length (take n j)) closed (take (gatheredOn R n room j closed .gathered) j) (gatheredOn R n room j closed)
+
+-- the record at a place ends the message, and nothing may follow
+unfoldable pub closesAt : Reader → ℕ → List ℕ → Bool
+closesAt R a s = R .final && ends R (drop a s)
+
+-- .. with more bytes behind it as well
+pub closes-more : (R : Reader) (s t : List ℕ) (a m to : ℕ) → going R 0 0 0 s ≡ decides a m to → closesAt R a (s ++ t) ≡ closesAt R a s
+unfolding closesAt
+closes-more R s t a m to e =
+    let r = subst (Reaches 0 s) e (going-reaches R 0 0 s) in
+    ap (λ (x : Bool). R .final && x)
+    (ap (ends R) (drop-append-le a s t (omega (arith, r .1, r .2))) ∙ ends-more R (drop a s) t (decides-whole R s a m to e))
 
 pub data Coming (R : Reader) (n room : ℕ) (j : List ℕ) (closed : Bool) : Type 0 where
   -- a whole record decides
-  deciding : (a m to : ℕ) → going R 0 0 0 (fit n room j) ≡ decides a m to → Coming R n room j closed
-  -- none does: a byte has no room
+  deciding : (a m to : ℕ) → going R 0 0 0 (fit n room j) ≡ decides a m to → closesAt R a (fit n room j) ≡ false → Coming R n room j closed
+  -- it is an end record behind which nothing may follow, and a byte does
+  following : (a m to : ℕ) → going R 0 0 0 (fit n room j) ≡ decides a m to → closesAt R a (fit n room j) ≡ true → to < length (take n j) → Coming R n room j closed
+  -- none does, and the limit or the close has come
+  closing : (a m to : ℕ) → going R 0 0 0 (fit n room j) ≡ decides a m to → closesAt R a (fit n room j) ≡ true → length (take n j) ≤ to
+      → (undecided R n (record { piece = j; closed = closed }) ≡ false) → howAfter n (length (take n j)) closed to ≡ pieces.decided → (closed ≡ false → n ≤ length j) → Coming R n room j closed
+  -- none does, and one may
+  resting : (a m to : ℕ) → going R 0 0 0 (fit n room j) ≡ decides a m to → closesAt R a (fit n room j) ≡ true → length (take n j) ≤ to → length j < n → closed ≡ false → Coming R n room j closed
+  -- no record decides: a byte has no room
   lacking : (a m : ℕ) → going R 0 0 0 (fit n room j) ≡ waits a m → room < length (take n j) → Coming R n room j closed
   -- the limit or the close cuts the last
   cutting : (a m : ℕ) → going R 0 0 0 (fit n room j) ≡ waits a m → length (take n j) ≤ room → (undecided R n (record { piece = j; closed = closed }) ≡ false) → howOn n room j closed ≡ pieces.decided
@@ -129,15 +166,37 @@ pub data Coming (R : Reader) (n room : ℕ) (j : List ℕ) (closed : Bool) : Typ
   lasting : (a m : ℕ) → going R 0 0 0 (fit n room j) ≡ waits a m → length (take n j) ≤ room → length j < n → closed ≡ false → Coming R n room j closed
 
 module _ (R : Reader) (n room : ℕ) (j : List ℕ) where
+  -- the limit has come
+  limit-decided : (closed : Bool) → n ≤ length j → undecided R n (record { piece = j; closed = closed }) ≡ false
+  unfolding undecided
+  limit-decided closed h = rw (le-ltb (length j) n h, and-false)
+
   cutting-limit : (closed : Bool) (a m : ℕ) → going R 0 0 0 (fit n room j) ≡ waits a m → length (take n j) ≤ room → n ≤ length j → Coming R n room j closed
-  unfolding undecided howOn
+  unfolding howOn
   cutting-limit closed a m e l h =
-      cutting a m e l (rw (le-ltb (length j) n h, and-false)) (rw (le-ltb room (length (take n j)) l, eq-eqb (length (take n j)) n (length-take-le n j h))) (λ q. h)
+      cutting a m e l (limit-decided closed h) (rw (le-ltb room (length (take n j)) l, eq-eqb (length (take n j)) n (length-take-le n j h))) (λ q. h)
 
   cutting-close : (a m : ℕ) → going R 0 0 0 (fit n room j) ≡ waits a m → length (take n j) ≤ room → Coming R n room j true
   unfolding undecided howOn
   cutting-close a m e l =
       cutting a m e l refl (rw (le-ltb room (length (take n j)) l, or-true)) (λ q. absurd (true≢false q))
+
+  -- a record that decides reaches no further than what fits, and that no further than the limit
+  pub decides-fits : (a m to : ℕ) → going R 0 0 0 (fit n room j) ≡ decides a m to → (to ≤ length (fit n room j)) × (a ≤ to) × (to ≤ length (take n j))
+  decides-fits a m to e =
+      let r = subst (Reaches 0 (fit n room j)) e (going-reaches R 0 0 (fit n room j)) in
+      (omega (arith, r .2), omega (arith, r .1), omega (arith, r .2, length-take room (take n j)))
+
+  closing-limit : (closed : Bool) (a m to : ℕ) → going R 0 0 0 (fit n room j) ≡ decides a m to → closesAt R a (fit n room j) ≡ true → length (take n j) ≤ to → n ≤ length j → Coming R n room j closed
+  unfolding howAfter
+  closing-limit closed a m to e f l h =
+      let t : length (take n j) ≡ n = length-take-le n j h in
+      let z : to ≡ n = omega (arith, l, t, decides-fits a m to e .2) in
+      closing a m to e f l (limit-decided closed h) (rw (le-ltb to (length (take n j)) l, eq-eqb to n z)) (λ q. h)
+
+  closing-close : (a m to : ℕ) → going R 0 0 0 (fit n room j) ≡ decides a m to → closesAt R a (fit n room j) ≡ true → length (take n j) ≤ to → Coming R n room j true
+  unfolding undecided howAfter
+  closing-close a m to e f l = closing a m to e f l refl (rw (le-ltb to (length (take n j)) l, or-true)) (λ q. absurd (true≢false q))
 
   pub coming : (closed : Bool) → Coming R n room j closed
   coming closed = go (going R 0 0 0 (fit n room j)) refl
@@ -154,20 +213,97 @@ module _ (R : Reader) (n room : ℕ) (j : List ℕ) where
       by-room true h a m e = lacking a m e (ltb-true room (length (take n j)) h)
       by-room false h a m e = by-limit (ltb (length j) n) refl a m e (ltb-false room (length (take n j)) h)
 
+      end-close : (c : Bool) (a m to : ℕ) → going R 0 0 0 (fit n room j) ≡ decides a m to → closesAt R a (fit n room j) ≡ true → length (take n j) ≤ to → length j < n → Coming R n room j c
+      end-close true a m to e f l h = closing-close a m to e f l
+      end-close false a m to e f l h = resting a m to e f l h refl
+
+      end-limit : (t : Bool) → ltb (length j) n ≡ t → (a m to : ℕ) → going R 0 0 0 (fit n room j) ≡ decides a m to → closesAt R a (fit n room j) ≡ true → length (take n j) ≤ to → Coming R n room j closed
+      end-limit true h a m to e f l = end-close closed a m to e f l (ltb-true (length j) n h)
+      end-limit false h a m to e f l = closing-limit closed a m to e f l (ltb-false (length j) n h)
+
+      by-byte : (t : Bool) (a m to : ℕ) → ltb to (length (take n j)) ≡ t → going R 0 0 0 (fit n room j) ≡ decides a m to → closesAt R a (fit n room j) ≡ true → Coming R n room j closed
+      by-byte true a m to h e f = following a m to e f (ltb-true to (length (take n j)) h)
+      by-byte false a m to h e f = end-limit (ltb (length j) n) refl a m to e f (ltb-false to (length (take n j)) h)
+
+      by-end : (t : Bool) (a m to : ℕ) → closesAt R a (fit n room j) ≡ t → going R 0 0 0 (fit n room j) ≡ decides a m to → Coming R n room j closed
+      by-end true a m to f e = by-byte (ltb to (length (take n j))) a m to refl e f
+      by-end false a m to f e = deciding a m to e f
+
       go : (g : Going) → going R 0 0 0 (fit n room j) ≡ g → Coming R n room j closed
       go (waits a m) e = by-room (ltb room (length (take n j))) refl a m e
-      go (decides a m to) e = deciding a m to e
+      go (decides a m to) e = by-end (closesAt R a (fit n room j)) a m to refl e
 
-  -- what each leaves
-  pub came-decided : (closed : Bool) (a m to : ℕ) → going R 0 0 0 (fit n room j) ≡ decides a m to
-      → cameOn R n room j closed ≡ record { gathered = to; begins = a; met = m; how = pieces.decided }
-  unfolding cameOn
-  came-decided closed a m to e = ap (cameTo (howOn n room j closed) (length (fit n room j))) e
+  -- ---- what each leaves
+
+  module _ (a m to : ℕ) (e : going R 0 0 0 (fit n room j) ≡ decides a m to) where
+    pub front-long : length (take to j) ≡ to
+    front-long = length-take-le to j (omega (arith, decides-fits a m to e .0, fit-short n room j .0))
+
+    pub front-fit : take to j ++ drop to (fit n room j) ≡ fit n room j
+    front-fit = ap (λ (s : List ℕ). s ++ drop to (fit n room j)) (sym (fit-part n room j to (decides-fits a m to e .0))) ∙ take-append-drop to (fit n room j)
+
+    -- the bytes through the record that decides decide the same
+    pub front-decides : going R 0 0 0 (take to j) ≡ decides a m to
+    front-decides = go (going R 0 0 0 (take to j)) refl
+      where
+        go : (g : Going) → going R 0 0 0 (take to j) ≡ g → going R 0 0 0 (take to j) ≡ decides a m to
+        go (waits a′ m′) q = absurd (let z : ⊥ = omega (arith, front-long, past R (take to j) (drop to (fit n room j)) a′ m′ a m to q (ap (going R 0 0 0) front-fit ∙ e)) in z)
+        go (decides a′ m′ to′) q = q ∙ sym (going-decides-more R (drop to (fit n room j)) 0 0 (take to j) a′ m′ to′ q) ∙ ap (going R 0 0 0) front-fit ∙ e
+
+    front-ends : closesAt R a (take to j) ≡ closesAt R a (fit n room j)
+    front-ends = sym (closes-more R (take to j) (drop to (fit n room j)) a m to front-decides) ∙ ap (closesAt R a) front-fit
+
+    came-after : (closed : Bool) → cameOn R n room j closed ≡ afterEnd R n (length (take n j)) closed (take to j) (record { gathered = to; begins = a; met = m; how = pieces.decided })
+    unfolding cameOn gatheredOn
+    came-after closed =
+        ap (λ (x : Came). afterEnd R n (length (take n j)) closed (take (x .gathered) j) x) (ap (cameTo (howOn n room j closed) (length (fit n room j))) e)
+
+    after-by : (closed t : Bool) → closesAt R a (take to j) ≡ t → afterEnd R n (length (take n j)) closed (take to j) (record { gathered = to; begins = a; met = m; how = pieces.decided })
+        ≡ cond t (record { gathered = to; begins = a; met = m; how = howAfter n (length (take n j)) closed to }) (record { gathered = to; begins = a; met = m; how = pieces.decided })
+    unfolding afterEnd closesAt
+    after-by closed t q = go (R .final) (ends R (drop a (take to j))) q
+      where
+        to-end : Came
+        to-end = record { gathered = to; begins = a; met = m; how = howAfter n (length (take n j)) closed to }
+
+        as-it-is : Came
+        as-it-is = record { gathered = to; begins = a; met = m; how = pieces.decided }
+
+        go : (f x : Bool) → (f && x) ≡ t → cond (f && true && x) to-end as-it-is ≡ cond t to-end as-it-is
+        go true x h = ap (λ (y : Bool). cond y to-end as-it-is) h
+        go false x h = ap (λ (y : Bool). cond y to-end as-it-is) h
+
+    pub came-decided : (closed : Bool) → closesAt R a (fit n room j) ≡ false → cameOn R n room j closed ≡ record { gathered = to; begins = a; met = m; how = pieces.decided }
+    came-decided closed f = came-after closed ∙ after-by closed false (front-ends ∙ f)
+
+    pub came-ended : (closed : Bool) (w : How) → closesAt R a (fit n room j) ≡ true → howAfter n (length (take n j)) closed to ≡ w
+        → cameOn R n room j closed ≡ record { gathered = to; begins = a; met = m; how = w }
+    came-ended closed w f h =
+        came-after closed ∙ after-by closed true (front-ends ∙ f) ∙ ap (λ (x : How). record { gathered = to; begins = a; met = m; how = x }) h
+
+    pub after-follows : (closed : Bool) → to < length (take n j) → howAfter n (length (take n j)) closed to ≡ followed
+    unfolding howAfter
+    after-follows closed l = rw (lt-ltb to (length (take n j)) l)
+
+    pub after-limited : (closed : Bool) → length (take n j) ≤ to → n ≤ length j → howAfter n (length (take n j)) closed to ≡ pieces.decided
+    unfolding howAfter
+    after-limited closed l h =
+        let z : to ≡ n = omega (arith, l, length-take-le n j h, decides-fits a m to e .2) in
+        rw (le-ltb to (length (take n j)) l, eq-eqb to n z)
+
+    pub after-rests : length (take n j) ≤ to → length j < n → howAfter n (length (take n j)) false to ≡ waiting
+    unfolding howAfter
+    after-rests l h = rw (le-ltb to (length (take n j)) l, ne-eqb to n (λ q. omega (arith, length-take n j, decides-fits a m to e .2)))
 
   pub came-waits : (closed : Bool) (a m : ℕ) (w : How) → going R 0 0 0 (fit n room j) ≡ waits a m → howOn n room j closed ≡ w
       → cameOn R n room j closed ≡ record { gathered = length (fit n room j); begins = a; met = m; how = w }
-  unfolding cameOn
-  came-waits closed a m w e h = ap (cameTo (howOn n room j closed) (length (fit n room j))) e ∙ ap (λ (x : How). cameTo x (length (fit n room j)) (waits a m)) h
+  unfolding cameOn gatheredOn
+  came-waits closed a m w e h =
+      ap (λ (x : Came). afterEnd R n (length (take n j)) closed (take (x .gathered) j) x)
+      (ap (cameTo (howOn n room j closed) (length (fit n room j))) e ∙ ap (λ (x : How). cameTo x (length (fit n room j)) (waits a m)) h)
+      ∙ ap (λ (s : List ℕ). afterEnd R n (length (take n j)) closed s (record { gathered = length (fit n room j); begins = a; met = m; how = w })) (fit-front n room j)
+      ∙ sym (after-other R n (length (take n j)) closed (fit n room j) (record { gathered = length (fit n room j); begins = a; met = m; how = w })
+      (partial-ends R (drop a (fit n room j)) (let z : a - 0 ≡ a = omega arith in rw z at (subst (Reaches 0 (fit n room j)) e (going-reaches R 0 0 (fit n room j)) .2))))
 
   pub how-lacks : (closed : Bool) → room < length (take n j) → howOn n room j closed ≡ noRoom
   unfolding howOn
@@ -181,12 +317,20 @@ module _ (R : Reader) (n room : ℕ) (j : List ℕ) where
   unfolding howOn
   how-waits l h = rw (le-ltb room (length (take n j)) l, ne-eqb (length (take n j)) n (λ q. omega (arith, length-take n j)))
 
+  pub came-gathered : (closed : Bool) → cameOn R n room j closed .gathered ≡ reach (length (fit n room j)) (going R 0 0 0 (fit n room j))
+  unfolding cameOn gatheredOn
+  came-gathered closed =
+      after-gathered R n (length (take n j)) closed (take (gatheredOn R n room j closed .gathered) j) (gatheredOn R n room j closed) ∙ go (going R 0 0 0 (fit n room j))
+    where
+      go : (g : Going) → cameTo (howOn n room j closed) (length (fit n room j)) g .gathered ≡ reach (length (fit n room j)) g
+      go (waits a m) = refl
+      go (decides a m to) = refl
+
   -- no more is gathered than there is, and than fits
   pub came-short : (closed : Bool) → cameOn R n room j closed .gathered ≤ length (fit n room j)
-  unfolding cameOn
-  came-short closed = go (going R 0 0 0 (fit n room j)) (going-reaches R 0 0 (fit n room j))
+  came-short closed = omega (arith, came-gathered closed, go (going R 0 0 0 (fit n room j)) (going-reaches R 0 0 (fit n room j)))
     where
-      go : (g : Going) → Reaches 0 (fit n room j) g → cameTo (howOn n room j closed) (length (fit n room j)) g .gathered ≤ length (fit n room j)
+      go : (g : Going) → Reaches 0 (fit n room j) g → reach (length (fit n room j)) g ≤ length (fit n room j)
       go (waits a m) r = omega arith
       go (decides a m to) r = omega (arith, r .2)
 
@@ -220,12 +364,8 @@ module _ (R : Reader) (H : (s : List ℕ) → Stops R [] 0 s (going R 0 0 0 s)) 
   module _ (n room : ℕ) (j : List ℕ) where
     -- how many bytes the buffer begins with
     pub held-is : (closed : Bool) → cameOn R n room j closed .gathered ≡ heldOn R n room j
-    unfolding heldOn cameOn
-    held-is closed = go (going R 0 0 0 (fit n room j)) (through-is (fit n room j))
-      where
-        go : (g : Going) → through R (fit n room j) ≡ reach (length (fit n room j)) g → cameTo (howOn n room j closed) (length (fit n room j)) g .gathered ≡ through R (fit n room j)
-        go (waits a m) e = sym e
-        go (decides a m to) e = sym e
+    unfolding heldOn
+    held-is closed = came-gathered R n room j closed ∙ sym (through-is (fit n room j))
 
     pub lacks-is : lacksRoom R n room j ≡ (ltb room (length (take n j)) && not (decided R (fit n room j)))
     unfolding lacksRoom
@@ -251,13 +391,77 @@ module _ (R : Reader) (H : (s : List ℕ) → Stops R [] 0 s (going R 0 0 0 s)) 
     pub lacks-byte : decided R (fit n room j) ≡ false → room < length (take n j) → lacksRoom R n room j ≡ true
     lacks-byte d l = lacks-is ∙ rw (d, lt-ltb room (length (take n j)) l)
 
-    pub undecided-not : (closed : Bool) → decided R (fit n room j) ≡ true → undecided R n (record { piece = j; closed = closed }) ≡ false
-    unfolding undecided
-    undecided-not closed d =
-        let f : fit n room j ++ drop (length (fit n room j)) j ≡ j =
-        ap (λ (s : List ℕ). s ++ drop (length (fit n room j)) j) (sym (fit-front n room j)) ∙ take-append-drop (length (fit n room j)) j in
-        let all : decided R j ≡ true = ap (decided R) (sym f) ∙ decided-more (fit n room j) (drop (length (fit n room j)) j) d in
-        rw (all, and-false)
+    -- those that fit, and those behind them
+    pub fit-rest : fit n room j ++ drop (length (fit n room j)) j ≡ j
+    fit-rest = ap (λ (s : List ℕ). s ++ drop (length (fit n room j)) j) (sym (fit-front n room j)) ∙ take-append-drop (length (fit n room j)) j
+
+    decided-all : decided R (fit n room j) ≡ true → decided R j ≡ true
+    decided-all d = ap (decided R) (sym fit-rest) ∙ decided-more (fit n room j) (drop (length (fit n room j)) j) d
+
+    -- the walk comes to the same, over what fits, what is inside the limit, and all of it
+    module _ (a m to : ℕ) (e : going R 0 0 0 (fit n room j) ≡ decides a m to) where
+      halts-fit : Stops R [] 0 (fit n room j) (decides a m to)
+      halts-fit = subst (Stops R [] 0 (fit n room j)) e (H (fit n room j))
+
+      pub walk-whole : walk R [] 0 0 j ≡ walk R [] 0 0 (fit n room j)
+      walk-whole = ap (walk R [] 0 0) (sym fit-rest) ∙ halts-fit .same (drop (length (fit n room j)) j)
+
+      pub walk-limit : walk R [] 0 0 (take n j) ≡ walk R [] 0 0 (fit n room j)
+      walk-limit = ap (walk R [] 0 0) (sym (take-append-drop room (take n j))) ∙ halts-fit .same (drop room (take n j))
+
+      pub closes-is : (R .final && reached (walk R [] 0 0 (fit n room j))) ≡ closesAt R a (fit n room j)
+      unfolding closesAt
+      closes-is = let z : a - 0 ≡ a = omega arith in ap (λ (t : Bool). R .final && t) (rw z at (halts-fit .ending))
+
+      -- it ends with that record
+      abbrev There : Type 0
+      There = (p : ℕ) × (st : List Sighting) × (walk R [] 0 0 (fit n room j) ≡ ended p to st)
+
+      pub ends-there : closesAt R a (fit n room j) ≡ true → (R .final ≡ true) × There
+      ends-there f = by (R .final) refl (closes-is ∙ f)
+        where
+          go : (o : Outcome) → walk R [] 0 0 (fit n room j) ≡ o → reached o ≡ true → There
+          go (stopped r) w q = absurd (true≢false (sym q))
+          go (ended p next st) w q = (p, st, w ∙ ap (λ (k : ℕ). ended p k st) (halts-fit .next p next st w))
+
+          by : (t : Bool) → R .final ≡ t → (t && reached (walk R [] 0 0 (fit n room j))) ≡ true
+              → (R .final ≡ true) × There
+          by true h q = (h, go (walk R [] 0 0 (fit n room j)) refl q)
+          by false h q = absurd (true≢false (sym q))
+
+      -- no wait behind a record that does not close the message
+      lasts-not : closesAt R a (fit n room j) ≡ false → lasts R j ≡ false
+      unfolding lasts
+      lasts-not f = ap (λ (o : Outcome). R .final && endsAt o (length j)) walk-whole ∙ go (R .final) (walk R [] 0 0 (fit n room j)) (closes-is ∙ f)
+        where
+          go : (t : Bool) (o : Outcome) → (t && reached o) ≡ false → (t && endsAt o (length j)) ≡ false
+          go false o q = refl
+          go true (stopped r) q = refl
+          go true (ended p next st) q = absurd (true≢false q)
+
+      -- .. nor where a byte follows, and else there is
+      lasts-by : closesAt R a (fit n room j) ≡ true → lasts R j ≡ eqb to (length j)
+      unfolding lasts
+      lasts-by f =
+          let y = ends-there f in
+          ap (λ (o : Outcome). R .final && endsAt o (length j)) (walk-whole ∙ y .1 .2) ∙ ap (λ (t : Bool). t && eqb to (length j)) (y .0)
+
+      d : decided R (fit n room j) ≡ true
+      d = decided-is (fit n room j) ∙ ap isDecides e
+
+      pub undecided-not : (closed : Bool) → closesAt R a (fit n room j) ≡ false → undecided R n (record { piece = j; closed = closed }) ≡ false
+      unfolding undecided
+      undecided-not closed f = rw (decided-all d, lasts-not f, and-false)
+
+      pub undecided-follows : (closed : Bool) → closesAt R a (fit n room j) ≡ true → to < length (take n j) → undecided R n (record { piece = j; closed = closed }) ≡ false
+      unfolding undecided
+      undecided-follows closed f l = rw (decided-all d, lasts-by f, ne-eqb to (length j) (λ q. omega (arith, l, length-take n j)), and-false)
+
+      pub undecided-rests : closesAt R a (fit n room j) ≡ true → length (take n j) ≤ to → length j < n → undecided R n (record { piece = j; closed = false }) ≡ true
+      unfolding undecided
+      undecided-rests f l h =
+          let k : to ≡ length j = omega (arith, l, length-take n j, decides-fits R n room j a m to e .2) in
+          rw (lt-ltb (length j) n h, decided-all d, lasts-by f, eq-eqb to (length j) k)
 
     pub undecided-lasts : decided R (fit n room j) ≡ false → length (take n j) ≤ room → length j < n → undecided R n (record { piece = j; closed = false }) ≡ true
     unfolding undecided

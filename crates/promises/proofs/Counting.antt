@@ -11,12 +11,13 @@ use borrow.Author.Tests.{eqb-true, eqb-false, eq-eqb, ne-eqb, ltb-true, ltb-fals
 use Rattle.nts.specs.Refusal.{Beside, nothing, code, protocol, algorithm}
 use Rattle.walk.specs.Walk.{Sighting}
 use Rattle.walk.specs.Judge.{ofKind}
-use Rattle.walk.specs.Table.{known}
+use Rattle.layout.specs.Profile.{shapeIn, knows}
+use Rattle.layout.specs.declared.Profile.the-variants.{Usual}
+use Rattle.layout.proofs.Profiles.{eleven-unknown, knows-below}
 use Rattle.walk.specs.Shown.{Mark, shown, slotOf, counted}
 use Rattle.walk.specs.Found.{seenOf, entryIn}
 use Rattle.walk.specs.Finding.{cellsFrom}
 use Rattle.walk.specs.declared.Seen.{Seen}
-use Rattle.walk.proofs.Known.{eleven-unknown, known-below}
 use Rattle.walk.proofs.Looking.{slot-below}
 use Rattle.walk.proofs.Telling.{told-stands}
 use Rattle.request.specs.Request.{reader, request, Told, keyExchangeIs, fixedKeyIs, supportIs, refusedWith, toldBy}
@@ -33,42 +34,42 @@ count-is : (l : List Sighting) (k : ℕ) → k < 15 → countAt (cellsFrom 0 15 
 count-is l k h = ap (λ (v : Seen). v .count) (told-stands l .each k h) ∙ seen-count (ofKind k l)
 
 -- by a test that says where a record is counted
-marks-count : (test : Mark → Bool) (k : ℕ) → ((x : Mark) → eqb (slotOf (x .kind)) k ≡ test x) → (l : List Mark) → length (ofKind k (map counted l)) ≡ countOf test l
+marks-count : (test : Mark → Bool) (k : ℕ) → ((x : Mark) → eqb (slotOf (shapeIn Usual) (x .kind)) k ≡ test x) → (l : List Mark) → length (ofKind k (map (counted (shapeIn Usual)) l)) ≡ countOf test l
 marks-count test k h [] = refl
 marks-count test k h (x ∷ l) = rw (h x) (go (test x) (marks-count test k h l))
   where
-    go : (b : Bool) → length (ofKind k (map counted l)) ≡ countOf test l → length (cond b (counted x ∷ ofKind k (map counted l)) (ofKind k (map counted l))) ≡ cond b (suc (countOf test l)) (countOf test l)
+    go : (b : Bool) → length (ofKind k (map (counted (shapeIn Usual)) l)) ≡ countOf test l → length (cond b (counted (shapeIn Usual) x ∷ ofKind k (map (counted (shapeIn Usual)) l)) (ofKind k (map (counted (shapeIn Usual)) l))) ≡ cond b (suc (countOf test l)) (countOf test l)
     go true e = ap suc e
     go false e = e
 
-not-eleven : (k : ℕ) → known k ≡ true → k ≡ 11 → ⊥
-not-eleven k h e = true≢false (sym h ∙ ap known e ∙ eleven-unknown)
+not-eleven : (k : ℕ) → knows Usual k ≡ true → k ≡ 11 → ⊥
+not-eleven k h e = true≢false (sym h ∙ ap (knows Usual) e ∙ eleven-unknown Usual)
 
-known-slot : (k : ℕ) → known k ≡ true → (x : Mark) → eqb (slotOf (x .kind)) k ≡ isOf k x
-unfolding slotOf
-known-slot k h x = go (known (x .kind)) refl
+known-slot : (k : ℕ) → knows Usual k ≡ true → (x : Mark) → eqb (slotOf (shapeIn Usual) (x .kind)) k ≡ isOf k x
+unfolding slotOf knows
+known-slot k h x = go (knows Usual (x .kind)) refl
   where
-    go : (b : Bool) → known (x .kind) ≡ b → eqb (cond b (x .kind) 11) k ≡ eqb (x .kind) k
+    go : (b : Bool) → knows Usual (x .kind) ≡ b → eqb (cond b (x .kind) 11) k ≡ eqb (x .kind) k
     go true e = refl
-    go false e = ne-eqb 11 k (λ q. not-eleven k h (sym q)) ∙ sym (ne-eqb (x .kind) k (λ q. true≢false (sym h ∙ ap known (sym q) ∙ e)))
+    go false e = ne-eqb 11 k (λ q. not-eleven k h (sym q)) ∙ sym (ne-eqb (x .kind) k (λ q. true≢false (sym h ∙ ap (knows Usual) (sym q) ∙ e)))
 
-other-slot : (x : Mark) → eqb (slotOf (x .kind)) 11 ≡ isOther x
-unfolding slotOf
-other-slot x = go (known (x .kind)) refl
+other-slot : (x : Mark) → eqb (slotOf (shapeIn Usual) (x .kind)) 11 ≡ isOther x
+unfolding slotOf knows
+other-slot x = go (knows Usual (x .kind)) refl
   where
-    go : (b : Bool) → known (x .kind) ≡ b → eqb (cond b (x .kind) 11) 11 ≡ not b
+    go : (b : Bool) → knows Usual (x .kind) ≡ b → eqb (cond b (x .kind) 11) 11 ≡ not b
     go true e = ne-eqb (x .kind) 11 (not-eleven (x .kind) e)
     go false e = refl
 
 module _ (l : List Mark) where
   abbrev cells : List ℕ
-  cells = cellsFrom 0 15 (map counted l)
+  cells = cellsFrom 0 15 (map (counted (shapeIn Usual)) l)
 
-  pub kind-counted : (k : ℕ) → known k ≡ true → countAt cells k ≡ countOf (isOf k) l
-  kind-counted k kn = count-is (map counted l) k (known-below k kn) ∙ marks-count (isOf k) k (known-slot k kn) l
+  pub kind-counted : (k : ℕ) → knows Usual k ≡ true → countAt cells k ≡ countOf (isOf k) l
+  kind-counted k kn = count-is (map (counted (shapeIn Usual)) l) k (knows-below Usual k kn) ∙ marks-count (isOf k) k (known-slot k kn) l
 
   pub others-counted : countAt cells 11 ≡ countOf isOther l
-  others-counted = count-is (map counted l) 11 (omega arith) ∙ marks-count isOther 11 other-slot l
+  others-counted = count-is (map (counted (shapeIn Usual)) l) 11 (omega arith) ∙ marks-count isOther 11 other-slot l
 
 -- ---- all of them
 
@@ -101,19 +102,19 @@ one-below x l (suc n) = go (eqb (x .of) n) (ltb (x .of) n) (ltb (x .of) (suc n))
     go false false true p q r h = let z = eqb-false (x .of) n p in absurd (z (omega (arith, ltb-false (x .of) n q, ltb-true (x .of) (suc n) r)))
     go false false false p q r h = omega (arith, h)
 
-all-below : (l : List Mark) → below 15 (map counted l) ≡ length l
+all-below : (l : List Mark) → below 15 (map (counted (shapeIn Usual)) l) ≡ length l
 unfolding below
 all-below [] = refl
 all-below (x ∷ l) =
-    let s = slot-below (slotOf (x .kind)) (x .kind) refl in
-    one-below (counted x) (map counted l) 15 ∙ go (ltb (slotOf (x .kind)) 15) refl s (all-below l)
+    let s = slot-below (record { profile = Usual; entries = [] }) (slotOf (shapeIn Usual) (x .kind)) (x .kind) refl in
+    one-below (counted (shapeIn Usual) x) (map (counted (shapeIn Usual)) l) 15 ∙ go (ltb (slotOf (shapeIn Usual) (x .kind)) 15) refl s (all-below l)
   where
-    go : (b : Bool) → ltb (slotOf (x .kind)) 15 ≡ b → slotOf (x .kind) < 15 → below 15 (map counted l) ≡ length l → below 15 (map counted l) + cond b 1 0 ≡ suc (length l)
+    go : (b : Bool) → ltb (slotOf (shapeIn Usual) (x .kind)) 15 ≡ b → slotOf (shapeIn Usual) (x .kind) < 15 → below 15 (map (counted (shapeIn Usual)) l) ≡ length l → below 15 (map (counted (shapeIn Usual)) l) + cond b 1 0 ≡ suc (length l)
     go true e s h = omega (arith, h)
-    go false e s h = absurd (omega (arith, ltb-false (slotOf (x .kind)) 15 e))
+    go false e s h = absurd (omega (arith, ltb-false (slotOf (shapeIn Usual) (x .kind)) 15 e))
 
-pub counts-sum : (l : List Mark) → sumOf (cellsFrom 0 15 (map counted l)) 15 ≡ length l
-counts-sum l = sum-below (map counted l) 15 (omega arith) ∙ all-below l
+pub counts-sum : (l : List Mark) → sumOf (cellsFrom 0 15 (map (counted (shapeIn Usual)) l)) 15 ≡ length l
+counts-sum l = sum-below (map (counted (shapeIn Usual)) l) 15 (omega arith) ∙ all-below l
 
 -- ---- lines of text
 
@@ -195,10 +196,10 @@ answer-none (refusedWith r) =
     ∙ then (digits (r .place)) (besideText (r .beside)) (digits-none (r .place))
     ∙ beside-none (r .beside)
 
-pub listing-has : (m : List ℕ) (n room : ℕ) → linesIn (listing m n room) ≡ linesIn (linesOf (shown reader [] 0 0 (take n m))) + 2
+pub listing-has : (m : List ℕ) (n room : ℕ) → linesIn (listing m n room) ≡ linesIn (linesOf (shown (reader Usual) [] 0 0 (take n m))) + 2
 unfolding listing
 listing-has m n room =
-    let lines = linesOf (shown reader [] 0 0 (take n m)) in
-    let last = answerText (toldBy m (request m n room)) in
+    let lines = linesOf (shown (reader Usual) [] 0 0 (take n m)) in
+    let last = answerText (toldBy m (request Usual m n room)) in
     lines-append heading (lines ++ (last ++ (newline ∷ [])))
-    ∙ omega (arith, lines-append lines (last ++ (newline ∷ [])), lines-append last (newline ∷ []), answer-none (toldBy m (request m n room)))
+    ∙ omega (arith, lines-append lines (last ++ (newline ∷ [])), lines-append last (newline ∷ []), answer-none (toldBy m (request Usual m n room)))

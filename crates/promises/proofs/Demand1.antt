@@ -12,7 +12,6 @@
 -- it answers: Exact.antt. The calls that bear no number of 01: docs/DECISIONS.md.
 -- Assumes nothing.
 use mathlib.Core.Path.{_≡_, sym, ap, _∙_}
-use mathlib.Core.List.{[]}
 use native.Mathlib.Omega.{arith}
 use lib.ListN.{length, take}
 use denote.Ref.{now}
@@ -20,12 +19,13 @@ use Rattle.nts.specs.Refusal.{numberOf, besideOf}
 use Rattle.nts.specs.declared.NtsError.{NtsError}
 use Rattle.nts.specs.declared.Refusal.{Refusal}
 use Rattle.layout.specs.Write.{toldCount}
+use Rattle.layout.specs.declared.Profile.the-variants.{Usual}
 use Rattle.layout.specs.declared.ByteCount.{ByteCount}
 use Rattle.layout.specs.declared.ByteCount.the-variants as count
 use Rattle.record.specs.Told.{toldParsed, toldLooked}
 use Rattle.record.specs.declared.Parsed.the-variants as parsed
 use Rattle.record.specs.declared.Looked.the-variants as looked
-use Rattle.walk.specs.Walk.{walk}
+use Rattle.walk.specs.Walk.{walked}
 use Rattle.walk.specs.Rules.{readerOf}
 use Rattle.walk.specs.Found.{wayBy}
 use Rattle.walk.specs.Finding.{Found, foundBy, toldFinding}
@@ -92,8 +92,9 @@ record-parse-refuses κs a r e p y h = record-exactly .only (now (a .0), a .1 .0
 pub record-read-refuses : (κs : _) (a : _) (r : _) (e : _) → record-read.Learnt κs a r e → (y : Refusal) → r ≡ parsed.Refused y → In (numberOf (y .error)) recordNumbers
 record-read-refuses κs a r e p y h = record-exactly .only (now (a .1 .0), a .0 .at) (numberOf (y .error)) (ap ofRead (sym p ∙ ap toldParsed h))
 
+-- in every profile
 pub record-look-refuses : (κs : _) (a : _) (r : _) (e : _) → record-look.Learnt κs a r e → (y : Refusal) → r ≡ looked.Refused y → In (numberOf (y .error)) recordNumbers
-record-look-refuses κs a r e p y h = look-exactly .only (now (a .0), a .1 .0) (numberOf (y .error)) (ap ofSight (sym p ∙ ap toldLooked h))
+record-look-refuses κs a r e p y h = look-exactly (a .0) .only (now (a .1 .0), a .1 .1 .0) (numberOf (y .error)) (ap ofSight (sym p ∙ ap toldLooked h))
 
 pub record-serialize-refuses : (κs : _) (a : _) (r : _) (e : _) → record-serialize.Learnt κs a r e → (x : NtsError) → r ≡ count.Refused x → (now (e .1 .1 .0) ≡ now (a .1 .1 .0)) × In (numberOf x) writerNumbers
 record-serialize-refuses κs a r e p x h = wrote-refuses writerNumbers (serialize-exactly .only ((a .0, now (a .1 .0)), length (now (a .1 .1 .0)))) p x h
@@ -109,64 +110,65 @@ layout-length-refuses κs a r e p x h = count-refuses lengthNumbers (layout-leng
 
 -- ---- whole messages and their tables
 
--- by every table of rules. The cells lent to it are its answer, which a walk that is refused fills as well (docs/DECISIONS.md)
-pub walk-walk-refuses : (κs : _) (a : _) (r : _) (e : _) → walk-walk.Learnt κs a r e → (x : NtsError) → r .stop ≡ stop.Refused x → In (numberOf x) walkNumbers
+-- in every profile and by every table of rules. The cells lent to it are its answer, which a walk that is refused fills as well (docs/DECISIONS.md)
+pub walk-walk-refuses : (κs : _) (a : _) (r : _) (e : _) → walk-walk.Learnt κs a r e → (x : NtsError) → r .stop ≡ stop.Refused x → In (numberOf x) (walkNumbers (a .0))
 unfolding foundBy
 walk-walk-refuses κs a r e p x h =
-    walk-refuses walkNumbers (walk (readerOf (now (a .0))) [] 0 0 (take (a .1 .1 .0) (now (a .1 .0)))) (record { number = numberOf x; beside = besideOf x; place = r .place })
-    (walk-exactly .only (now (a .0), take (a .1 .1 .0) (now (a .1 .0)))) (sym (ap (wayBy (r .place)) h) ∙ ap (λ (f : Found). f .way) p)
+    walk-refuses (walkNumbers (a .0)) (walked (readerOf (record { profile = a .0; entries = now (a .1 .0) })) (take (a .1 .1 .1 .0) (now (a .1 .1 .0))))
+    (record { number = numberOf x; beside = besideOf x; place = r .place })
+    (walk-exactly (a .0) .only (now (a .1 .0), take (a .1 .1 .1 .0) (now (a .1 .1 .0)))) (sym (ap (wayBy (r .place)) h) ∙ ap (λ (f : Found). f .way) p)
 
 pub places-fill-refuses : (κs : _) (a : _) (r : _) (e : _) → places-fill.Learnt κs a r e → (y : Refusal) → r ≡ filled.Refused y → (now (e .1 .1 .1 .0) ≡ now (a .1 .1 .1 .0)) × In (numberOf (y .error)) fillNumbers
 places-fill-refuses κs a r e p y h =
     fill-refuses fillNumbers (fill-exactly .only (record { kind = a .1 .0; count = a .1 .1 .0; covered = now (a .0); room = roomOf (now (a .1 .1 .1 .0)) })) p y h
 
-pub request-parse-refuses : (κs : _) (a : _) (r : _) (e : _) → request-parse.Learnt κs a r e → (y : Refusal) → r ≡ request-answer.Refused y → (now (e .1 .1 .0) ≡ now (a .1 .1 .0)) × In (numberOf (y .error)) requestNumbers
+pub request-parse-refuses : (κs : _) (a : _) (r : _) (e : _) → request-parse.Learnt κs a r e → (y : Refusal) → r ≡ request-answer.Refused y → (now (e .1 .1 .1 .0) ≡ now (a .1 .1 .1 .0)) × In (numberOf (y .error)) (requestNumbers (a .0))
 request-parse-refuses κs a r e p y h =
-    request-refuses requestNumbers (request-exactly .only (record { message = now (a .0); limit = a .1 .0; room = roomOf (now (a .1 .1 .0)) })) p y h
+    request-refuses (requestNumbers (a .0)) (request-exactly (a .0) .only (record { message = now (a .1 .0); limit = a .1 .1 .0; room = roomOf (now (a .1 .1 .1 .0)) })) p y h
 
--- the request's own walk
+-- the request's own walk, in the usual profile
 pub request-walk-refuses : (κs : _) (a : _) (r : _) (e : _) → request-walk.Learnt κs a r e → (x : NtsError) → r .stop ≡ stop.Refused x → In (numberOf x) stopNumbers
 unfolding foundBy
 request-walk-refuses κs a r e p x h =
-    walk-refuses stopNumbers (walk reader [] 0 0 (take (a .1 .0) (now (a .0)))) (record { number = numberOf x; beside = besideOf x; place = r .place })
+    walk-refuses stopNumbers (walked (reader Usual) (take (a .1 .0) (now (a .0)))) (record { number = numberOf x; beside = besideOf x; place = r .place })
     (stop-exactly .only (take (a .1 .0) (now (a .0)))) (sym (ap (wayBy (r .place)) h) ∙ ap (λ (f : Found). f .way) p)
 
 pub request-decide-refuses : (κs : _) (a : _) (r : _) (e : _) → request-decide.Learnt κs a r e → (y : Refusal) → r ≡ request-answer.Refused y → (now (e .1 .1 .0) ≡ now (a .1 .1 .0)) × In (numberOf (y .error)) decideNumbers
 request-decide-refuses κs a r e p y h =
     request-refuses decideNumbers (decide-exactly .only (record { found = toldFinding (a .0); message = now (a .1 .0); room = roomOf (now (a .1 .1 .0)) })) p y h
 
-pub request-judge-refuses : (κs : _) (a : _) (r : _) (e : _) → request-judge.Learnt κs a r e → (y : Refusal) → r .answer ≡ request-answer.Refused y → In (numberOf (y .error)) requestNumbers
+pub request-judge-refuses : (κs : _) (a : _) (r : _) (e : _) → request-judge.Learnt κs a r e → (y : Refusal) → r .answer ≡ request-answer.Refused y → In (numberOf (y .error)) (requestNumbers (a .0))
 request-judge-refuses κs a r e p y h =
-    judge-refuses requestNumbers (now (a .0)) (request (now (a .0)) (a .1 .0) (a .1 .1 .0))
-    (request-exactly .only (record { message = now (a .0); limit = a .1 .0; room = a .1 .1 .0 })) (p .says) y h .1
+    judge-refuses (requestNumbers (a .0)) (now (a .1 .0)) (request (a .0) (now (a .1 .0)) (a .1 .1 .0) (a .1 .1 .1 .0))
+    (request-exactly (a .0) .only (record { message = now (a .1 .0); limit = a .1 .1 .0; room = a .1 .1 .1 .0 })) (p .says) y h .1
 
-pub reply-parse-refuses : (κs : _) (a : _) (r : _) (e : _) → reply-parse.Learnt κs a r e → (y : Refusal) → r ≡ reply-answer.Refused y → (now (e .1 .1 .1 .1 .0) ≡ now (a .1 .1 .1 .1 .0)) × In (numberOf (y .error)) replyNumbers
+pub reply-parse-refuses : (κs : _) (a : _) (r : _) (e : _) → reply-parse.Learnt κs a r e → (y : Refusal) → r ≡ reply-answer.Refused y → (now (e .1 .1 .1 .1 .1 .0) ≡ now (a .1 .1 .1 .1 .1 .0)) × In (numberOf (y .error)) (replyNumbers (a .0))
 reply-parse-refuses κs a r e p y h =
-    reply-refuses replyNumbers
-    (reply-exactly .only (record { message = now (a .0); limit = a .1 .0; terms = offering (now (a .1 .1 .0)) (now (a .1 .1 .1 .0)) (roomOf (now (a .1 .1 .1 .1 .0))) })) p y h
+    reply-refuses (replyNumbers (a .0))
+    (reply-exactly (a .0) .only (record { message = now (a .1 .0); limit = a .1 .1 .0; terms = offering (now (a .1 .1 .1 .0)) (now (a .1 .1 .1 .1 .0)) (roomOf (now (a .1 .1 .1 .1 .1 .0))) })) p y h
 
-pub reply-judge-refuses : (κs : _) (a : _) (r : _) (e : _) → reply-judge.Learnt κs a r e → (y : Refusal) → r .answer ≡ reply-answer.Refused y → In (numberOf (y .error)) replyNumbers
+pub reply-judge-refuses : (κs : _) (a : _) (r : _) (e : _) → reply-judge.Learnt κs a r e → (y : Refusal) → r .answer ≡ reply-answer.Refused y → In (numberOf (y .error)) (replyNumbers (a .0))
 reply-judge-refuses κs a r e p y h =
-    let u = offering (now (a .1 .1 .0)) (now (a .1 .1 .1 .0)) (a .1 .1 .1 .1 .0) in
-    reply-answer-refuses replyNumbers (now (a .0)) (replyOf (now (a .0)) (a .1 .0) u)
-    (reply-exactly .only (record { message = now (a .0); limit = a .1 .0; terms = u })) (p .says) y h .1
+    let u = offering (now (a .1 .1 .1 .0)) (now (a .1 .1 .1 .1 .0)) (a .1 .1 .1 .1 .1 .0) in
+    reply-answer-refuses (replyNumbers (a .0)) (now (a .1 .0)) (replyOf (a .0) (now (a .1 .0)) (a .1 .1 .0) u)
+    (reply-exactly (a .0) .only (record { message = now (a .1 .0); limit = a .1 .1 .0; terms = u })) (p .says) y h .1
 
 -- ---- a read that is fed in pieces: a refusal may change connection and buffer, and no cell of the table (02, order 1)
 
 pub pieces-feed-request-refuses : (κs : _) (a : _) (r : _) (e : _) → pieces-feed-request.Learnt κs a r e → (y : Refusal) → r .answer ≡ asked.Refused y
-    → (now (e .1 .1 .1 .1 .0) ≡ now (a .1 .1 .1 .1 .0)) × In (numberOf (y .error)) (orKept (toldState (a .0 .state)) feedRequestNumbers)
+    → (now (e .1 .1 .1 .1 .0) ≡ now (a .1 .1 .1 .1 .0)) × In (numberOf (y .error)) (orKept (toldState (a .0 .state)) (feedRequestNumbers (a .0 .profile)))
 pieces-feed-request-refuses κs a r e p y h = feed-request-refuses (a .0) r p y h
 
 pub pieces-feed-reply-refuses : (κs : _) (a : _) (r : _) (e : _) → pieces-feed-reply.Learnt κs a r e → (y : Refusal) → r .answer ≡ replied.Refused y
-    → (now (e .1 .1 .1 .1 .1 .1 .0) ≡ now (a .1 .1 .1 .1 .1 .1 .0)) × In (numberOf (y .error)) (orKept (toldState (a .0 .state)) feedReplyNumbers)
+    → (now (e .1 .1 .1 .1 .1 .1 .0) ≡ now (a .1 .1 .1 .1 .1 .1 .0)) × In (numberOf (y .error)) (orKept (toldState (a .0 .state)) (feedReplyNumbers (a .0 .profile)))
 pieces-feed-reply-refuses κs a r e p y h = feed-reply-refuses (a .0) r (now (a .1 .1 .1 .0)) (now (a .1 .1 .1 .1 .0)) p y h
 
 pub pieces-hand-refuses : (κs : _) (a : _) (r : _) (e : _) → pieces-hand.Learnt κs a r e → (y : Refusal) → r .answer ≡ handed.Refused y
-    → (now (e .1 .1 .1 .1 .1 .1 .1 .0) ≡ now (a .1 .1 .1 .1 .1 .1 .1 .0)) × In (numberOf (y .error)) (orKept (toldState (a .0 .state)) (expectedNumbers (a .1 .0)))
+    → (now (e .1 .1 .1 .1 .1 .1 .1 .0) ≡ now (a .1 .1 .1 .1 .1 .1 .1 .0)) × In (numberOf (y .error)) (orKept (toldState (a .0 .state)) (expectedNumbers (a .1 .0) (a .0 .profile)))
 pieces-hand-refuses κs a r e p y h = hands-over-refuses (a .0) (a .1 .0) _ _ _ _ _ _ r _ _ p y h
 
 pub pieces-hand-over-refuses : (κs : _) (a : _) (r : _) (e : _) → pieces-hand-over.Learnt κs a r e → (y : Refusal) → r ≡ handed.Refused y
-    → (now (e .1 .1 .1 .1 .1 .1 .1 .0) ≡ now (a .1 .1 .1 .1 .1 .1 .1 .0)) × In (numberOf (y .error)) (orKept (toldState (now (a .0) .state)) (expectedNumbers (a .1 .0)))
+    → (now (e .1 .1 .1 .1 .1 .1 .1 .0) ≡ now (a .1 .1 .1 .1 .1 .1 .1 .0)) × In (numberOf (y .error)) (orKept (toldState (now (a .0) .state)) (expectedNumbers (a .1 .0) (now (a .0) .profile)))
 pieces-hand-over-refuses κs a r e p y h = hands-over-refuses (now (a .0)) (a .1 .0) _ _ _ _ _ _ (record { connection = now (e .0); answer = r }) _ _ p y h
 
 -- ---- a choice

@@ -1,37 +1,44 @@
 -- Demand 1, "A refusal bears its number from document 01": of each definition that a call between crates cites, the numbers that it refuses with. No other is
 -- answered, and each is, by an input of which it is computed or shown.
 -- Assumes nothing.
-use mathlib.Core.Path.{_≡_, refl, ap, _∙_}
+use mathlib.Core.Path.{_≡_, refl, sym, ap, subst, _∙_}
 use mathlib.Core.List.{List, [], _∷_}
 use mathlib.Core.Bool.{Bool, true, false, cond, _&&_, _||_}
 use Prim.Native.Nat.{ℕ, zero, suc, _+_, _*_, _%_, _<_, _≤_}
 use native.Mathlib.Omega.{arith}
 use lib.ListN.{length, drop, replicate, length-replicate}
 use lib.Dec.{leb, ltb, eqb}
+use Rattle.utf8.specs.Ascii.{isAscii}
 use Rattle.utf8.specs.Utf8.{rows, fits, charSize, octets, wellFormed}
+use Rattle.utf8.proofs.Tests.{on}
 use Rattle.wire.specs.Bytes.{numberAt}
 use Rattle.nts.specs.Refusal.{nothing, Refused}
 use Rattle.nts.specs.Algorithm.{describe}
 use Rattle.layout.specs.Write.{isInside, isSound, isRecord, isNumber, bodySize, Count, bytes, refused, measured, fitted, written}
 use Rattle.layout.specs.declared.Layout.{Layout}
 use Rattle.layout.specs.Table.{rowOf, shapeOf, bitOf, isUnknown}
-use Rattle.record.specs.Record.{kindOf, criticalOf, kind, critical, size, there, short, uneven, notNumber, notHalves, notUtf8, firstOf, notName, faultOf, fault, Seen, readFrom, readAt, lookFrom, lookAt}
-use Rattle.record.specs.Record as rec
+use Rattle.layout.specs.Profile.{asksOf, isFinal, shapeIn, knows, allows}
+use Rattle.layout.specs.declared.Shape.{Shape}
+use Rattle.layout.specs.declared.Profile.{Profile}
+use Rattle.layout.specs.declared.Profile.the-variants.{Usual, Strict}
+use Rattle.layout.proofs.Profiles.{strict-shape, usual-shape, unknown-shape}
+use Rattle.record.specs.Record.{kindOf, criticalOf, kind, critical, size, there, short, uneven, notNumber, notHalves, notUtf8, firstOf, notName, faultOf, faultBy, fault, readFrom, readAt, lookFrom, lookAt}
 use Rattle.record.specs.Laid.{layoutOf}
 use Rattle.record.specs.declared.NtsRecord.{NtsRecord}
 use Rattle.record.specs.declared.NtsRecord.the-variants as item
-use Rattle.walk.specs.Walk.{faultIn, actIn, has, meet, judge, step, walk, Outcome, stopped, ended}
-use Rattle.walk.specs.Judge.{finish, readBy}
+use Rattle.walk.specs.Walk.{actIn, has, meet, judge, step, walk, behind, walked, Outcome, stopped, ended}
+use Rattle.walk.specs.Judge.{finish, readAs}
 use Rattle.walk.specs.Judge as refusing
 use Rattle.walk.specs.Found.{wayEnded}
 use Rattle.walk.specs.Finding.{foundBy, sameFound}
-use Rattle.walk.specs.Table.{known, actBy}
+use Rattle.walk.specs.Table.{actBy}
 use Rattle.walk.specs.Rules.{tellAct, ruleAct, actAt, onceAt, readerOf}
-use Rattle.walk.proofs.Numbered.{record-few, walk-numbered}
+use Rattle.walk.proofs.Numbered.{Barred, record-few, walk-numbered}
 use Rattle.places.specs.Places.{placesIn, tooMany, fillingOf, first}
 use Rattle.request.specs.Request as requests
 use Rattle.request.specs.Request.{request}
 use Rattle.request.proofs.Numbered.{stop-numbered, request-numbered}
+use Rattle.request.proofs.StrictNumbers.{strict-numbered}
 use Rattle.request.proofs.Deciding.{decided-by, decided-own}
 use Rattle.reply.specs.Reply as replies
 use Rattle.reply.specs.Reply.{replyOf}
@@ -44,8 +51,8 @@ use Rattle.plan.specs.declared.Plan.{Plan}
 use Rattle.messages.specs.Messages.{tooLong, replyChecked, supportLength, supportChecked, allUtf8, requestLength, requestChecked}
 use Rattle.messages.specs.declared.Asked.{Asked}
 use Rattle.listing.specs.Listing.{listing}
-use Rattle.promises.specs.Numbers.{In, All, none, bears, Exactly, ofCount, ofRead, ofSight, ofOutcome, ofAnswer, ofFilling, ofChoice, ofProtocol, ofAppended, recordNumbers, walkNumbers, requestNumbers, stopNumbers, decideNumbers, replyNumbers, fillNumbers, choiceNumbers, protocolNumbers, lengthNumbers, writerNumbers, appendNumbers, planNumbers, replyWriterNumbers, roomNumbers, Read, ReadReply, Decided, Filled, Offered, Cookie, Denied, Reply, Support, Request}
-use Rattle.promises.proofs.Bearing.{Within, only-of, if-within, answer-only, with-room, room-alone, alike, wider}
+use Rattle.promises.specs.Numbers.{In, All, Number, none, bears, Exactly, ofCount, ofRead, ofSight, ofOutcome, ofAnswer, ofFilling, ofChoice, ofProtocol, ofAppended, recordNumbers, orNotAllowed, walkNumbers, requestNumbers, stopNumbers, decideNumbers, replyNumbers, fillNumbers, choiceNumbers, protocolNumbers, lengthNumbers, writerNumbers, appendNumbers, planNumbers, replyWriterNumbers, roomNumbers, Read, ReadReply, Decided, Filled, Offered, Cookie, Denied, Reply, Support, Request}
+use Rattle.promises.proofs.Bearing.{Within, only-of, if-within, answer-only, with-room, room-alone, wider}
 
 all-map : {P Q : ℕ → Type 0} (l : List ℕ) → ((n : ℕ) → P n → Q n) → All P l → All Q l
 all-map [] f h = tt
@@ -92,78 +99,149 @@ fixed n = 0 ∷ 14 ∷ 0 ∷ 0 ∷ 128 ∷ 12 ∷ 0 ∷ 0 ∷ lists n end
 abbrev asked : List ℕ → Read
 asked m = record { message = m; limit = 64; room = 0 }
 
+-- ---- of each profile
+
+-- an answer of f in each profile
+abbrev Bears : {X : Type 0} → (Profile → X → Number) → Profile → ℕ → Type 0
+Bears {X} f P n = (x : X) × (f P x ≡ bears n)
+
+-- one input for both
+both : {X : Type 0} (f : Profile → X → Number) (n : ℕ) (x : X) → f Usual x ≡ bears n → f Strict x ≡ bears n → (P : Profile) → Bears f P n
+both f n x u s Usual = (x, u)
+both f n x u s Strict = (x, s)
+
+-- 18 too, in the strict profile
+or-each : {X : Type 0} (f : Profile → X → Number) (l : List ℕ) → ((P : Profile) → All (Bears f P) l) → (x : X) → f Strict x ≡ bears 18 → (P : Profile) → All (Bears f P) (orNotAllowed P l)
+or-each f l h x e Usual = h Usual
+or-each f l h x e Strict = ((x, e), h Strict)
+
+in-or : (P : Profile) (l : List ℕ) (n : ℕ) → In n l → In n (orNotAllowed P l)
+in-or Usual l n h = h
+in-or Strict l n h = on (eqb 18 n) (λ e. rw e) (λ e. rw e h)
+
+in-barred : (P : Profile) (l : List ℕ) → Barred (λ n. In n (orNotAllowed P l)) P
+in-barred Usual l = tt
+in-barred Strict l = refl
+
 -- ---- one record
 
-faulted : (f : ℕ) → f ≤ 2 → (x : Seen) (bit : Bool) (next at : ℕ)
-    → Within recordNumbers (ofRead (cond (eqb f 0) (rec.read x bit next) (rec.refused (record { number = f; beside = nothing; place = at }))))
-faulted zero l x bit next at = tt
-faulted (suc zero) l x bit next at = refl
-faulted (suc (suc zero)) l x bit next at = refl
-faulted (suc (suc (suc f))) l x bit next at = absurd (omega arith)
+-- an answer that is refused by its fault alone
+faulted : {A : Type 0} (g : A → Number) (f : ℕ) → f ≤ 2 → (a b : A) → g a ≡ none → g b ≡ bears f → Within recordNumbers (g (cond (eqb f 0) a b))
+faulted g zero l a b p q = rw p tt
+faulted g (suc zero) l a b p q = rw q refl
+faulted g (suc (suc zero)) l a b p q = rw q refl
+faulted g (suc (suc (suc f))) l a b p q = absurd (omega arith)
 
 pub record-exactly : Exactly (λ (x : List ℕ × ℕ). ofRead (readAt (x .0) (x .1))) recordNumbers
-unfolding numberAt kindOf criticalOf kind critical size there shapeOf rowOf notNumber faultOf fault readFrom readAt
+unfolding numberAt kindOf criticalOf kind critical size there shapeOf rowOf notNumber faultOf faultBy readFrom readAt
 record-exactly = record {
-  only = λ x. only-of recordNumbers (ofRead (readAt (x .0) (x .1))) (faulted (fault (drop (x .1) (x .0))) (record-few (drop (x .1) (x .0))) _ _ _ (x .1));
+  only = λ x. only-of recordNumbers (ofRead (readAt (x .0) (x .1))) (faulted ofRead (fault (drop (x .1) (x .0))) (record-few (drop (x .1) (x .0))) _ _ refl refl);
   each = ((([], 0), refl), (((odd-error, 0), refl), tt));
 }
 
--- a look refuses as the reader does
-pub look-exactly : Exactly (λ (x : List ℕ × ℕ). ofSight (lookAt (x .0) (x .1))) recordNumbers
-unfolding readFrom readAt lookFrom lookAt
-look-exactly = alike recordNumbers (λ x. same (eqb (fault (drop (x .1) (x .0))) 0) _ _ _ _ _ _ _) record-exactly
+-- a fault is 1 or 2 in every profile: what is asked of a kind's body is 01's, or, of one that the profile does not know, that it is all there
+few-in : (P : Profile) (s : List ℕ) → faultBy (shapeIn P) s ≤ 2
+unfolding faultBy faultOf short
+few-in P s = on (knows P (kind s)) known-few unknown-few
   where
-    same : (t : Bool) (k : ℕ) (bit : Bool) (n : ℕ) (x : Seen) (own : Bool) (next : ℕ) (r : Refused)
-        → ofSight (cond t (rec.whole k bit n) (rec.broken r)) ≡ ofRead (cond t (rec.read x own next) (rec.refused r))
-    same true k bit n x own next r = refl
-    same false k bit n x own next r = refl
+    by-shape : Shape → ℕ
+    by-shape x = cond (ltb (length s) 4) 1 (faultOf x (size s) (there s))
+
+    at-most : (a b : Bool) → cond a 1 (cond b 1 0) ≤ 2
+    at-most true b = omega arith
+    at-most false true = omega arith
+    at-most false false = omega arith
+
+    same : (X : Profile) → knows X (kind s) ≡ true → shapeIn X (kind s) ≡ shapeOf (kind s)
+    same Usual e = sym (usual-shape (kind s))
+    same Strict e = strict-shape (kind s) e
+
+    known-few : knows P (kind s) ≡ true → faultBy (shapeIn P) s ≤ 2
+    known-few e = subst (λ (n : ℕ). n ≤ 2) (sym (ap by-shape (same P e))) (record-few s)
+
+    unknown-few : knows P (kind s) ≡ false → faultBy (shapeIn P) s ≤ 2
+    unknown-few e = subst (λ (n : ℕ). n ≤ 2) (sym (ap by-shape (unknown-shape P (kind s) e))) (at-most (ltb (length s) 4) (ltb (length (there s)) (size s)))
+
+abbrev lookBears : Profile → List ℕ × ℕ → Number
+lookBears P x = ofSight (lookAt (shapeIn P) (x .0) (x .1))
+
+-- a look refuses with the numbers of the reader
+pub look-exactly : (P : Profile) → Exactly (λ (x : List ℕ × ℕ). ofSight (lookAt (shapeIn P) (x .0) (x .1))) recordNumbers
+unfolding numberAt kindOf criticalOf kind critical size there shapeOf rowOf notNumber faultOf faultBy asksOf shapeIn lookFrom lookAt
+look-exactly P = record {
+  only = λ x. only-of recordNumbers (lookBears P x) (faulted ofSight (faultBy (shapeIn P) (drop (x .1) (x .0))) (few-in P (drop (x .1) (x .0))) _ _ refl refl);
+  each = (both lookBears 1 ([], 0) refl refl P, (both lookBears 2 (odd-error, 0) refl refl P, tt));
+}
 
 -- ---- whole messages
 
--- by every table of rules
-pub walk-exactly : Exactly (λ (x : List ℕ × List ℕ). ofOutcome (walk (readerOf (x .0)) [] 0 0 (x .1))) walkNumbers
-unfolding numberAt kindOf criticalOf kind critical size there shapeOf rowOf isUnknown short uneven notNumber faultOf faultIn actIn has meet judge step walk known tellAct ruleAct actAt onceAt
-walk-exactly = record {
-  only = λ x. go (x .0) (x .1) (walk (readerOf (x .0)) [] 0 0 (x .1)) refl;
-  each = (
-    ((replies.rules, []), refl),
+-- a list of two protocols, which a reply may not have; an error and a warning
+abbrev two-listed : List ℕ
+two-listed = 128 ∷ 1 ∷ 0 ∷ 4 ∷ 0 ∷ 0 ∷ 0 ∷ 0 ∷ []
+
+abbrev an-error : List ℕ
+an-error = 128 ∷ 2 ∷ 0 ∷ 2 ∷ 0 ∷ 1 ∷ []
+
+abbrev a-warning : List ℕ
+a-warning = 128 ∷ 3 ∷ 0 ∷ 2 ∷ 0 ∷ 1 ∷ []
+
+-- 02, order 5: kinds 0, 1, 2 and 3 need their critical bit
+abbrev bit-clear : List ℕ
+bit-clear = 0 ∷ 1 ∷ 0 ∷ 0 ∷ []
+
+abbrev walkBears : Profile → List ℕ × List ℕ → Number
+walkBears P x = ofOutcome (walked (readerOf (record { profile = P; entries = x .0 })) (x .1))
+
+walk-each : (P : Profile) → All (Bears walkBears P) (1 ∷ 2 ∷ 3 ∷ 4 ∷ 11 ∷ 12 ∷ [])
+unfolding numberAt wellFormed octets isAscii kindOf criticalOf kind critical size there shapeOf rowOf short uneven notNumber notHalves notUtf8 firstOf notName faultOf faultBy asksOf isFinal shapeIn knows allows actIn has meet judge step walk behind walked tellAct ruleAct actAt onceAt
+walk-each P = (
+  both walkBears 1 (replies.rules, []) refl refl P,
+  (
+    both walkBears 2 (replies.rules, odd-error) refl refl P,
     (
-      ((replies.rules, odd-error), refl),
+      both walkBears 3 (replies.rules, unknown-set) refl refl P,
       (
-        ((replies.rules, unknown-set), refl),
-        (
-          ((replies.rules, 128 ∷ 9 ∷ 0 ∷ 0 ∷ []), refl),
-          (
-            ((replies.rules, 128 ∷ 2 ∷ 0 ∷ 2 ∷ 0 ∷ 1 ∷ []), refl),
-            (((replies.rules, 128 ∷ 3 ∷ 0 ∷ 2 ∷ 0 ∷ 1 ∷ []), refl), tt),
-          ),
-        ),
+        both walkBears 4 (replies.rules, two-listed) refl refl P,
+        (both walkBears 11 (replies.rules, an-error) refl refl P, (both walkBears 12 (replies.rules, a-warning) refl refl P, tt)),
       ),
     ),
-  );
-}
-  where
-    go : (rules s : List ℕ) (o : Outcome) → walk (readerOf rules) [] 0 0 s ≡ o → (n : ℕ) → ofOutcome o ≡ bears n → In n walkNumbers
-    go rules s (stopped r) e =
-        only-of walkNumbers (bears (r .number)) (walk-numbered (λ n. In n walkNumbers) (refl, refl, refl, refl, refl, refl) rules s r e .one)
-    go rules s (ended at next st) e = only-of walkNumbers none tt
+  ),
+)
 
-pub stop-exactly : Exactly (λ (s : List ℕ). ofOutcome (walk requests.reader [] 0 0 s)) stopNumbers
-unfolding numberAt kindOf criticalOf kind critical size there shapeOf rowOf isUnknown short uneven notNumber faultOf faultIn actIn has meet judge step walk known actBy requests.act requests.once
-stop-exactly = record {
-  only = λ s. go s (walk requests.reader [] 0 0 s) refl;
-  each = (([], refl), ((odd-error, refl), ((unknown-set, refl), ((128 ∷ 2 ∷ 0 ∷ 2 ∷ 0 ∷ 1 ∷ [], refl), tt))));
+-- by every table of rules
+pub walk-exactly : (P : Profile) → Exactly (λ (x : List ℕ × List ℕ). ofOutcome (walked (readerOf (record { profile = P; entries = x .0 })) (x .1))) (walkNumbers P)
+unfolding numberAt wellFormed octets isAscii kindOf criticalOf kind critical size there shapeOf rowOf short uneven notNumber notHalves notUtf8 firstOf notName faultOf faultBy asksOf isFinal shapeIn knows allows actIn has meet judge step walk behind walked tellAct ruleAct actAt onceAt
+walk-exactly P = record {
+  only = λ x. go (x .0) (x .1) (walked (readerOf (record { profile = P; entries = x .0 })) (x .1)) refl;
+  each = or-each walkBears (1 ∷ 2 ∷ 3 ∷ 4 ∷ 11 ∷ 12 ∷ []) walk-each (replies.rules, bit-clear) refl P;
 }
   where
-    go : (s : List ℕ) (o : Outcome) → walk requests.reader [] 0 0 s ≡ o → (n : ℕ) → ofOutcome o ≡ bears n → In n stopNumbers
-    go s (stopped r) e = only-of stopNumbers (bears (r .number)) (stop-numbered (λ n. In n stopNumbers) (refl, refl, refl, refl) s r e .one)
+    may : (n : ℕ) → In n (1 ∷ 2 ∷ 3 ∷ 4 ∷ 11 ∷ 12 ∷ []) → In n (walkNumbers P)
+    may n h = in-or P (1 ∷ 2 ∷ 3 ∷ 4 ∷ 11 ∷ 12 ∷ []) n h
+
+    go : (entries s : List ℕ) (o : Outcome) → walked (readerOf (record { profile = P; entries = entries })) s ≡ o → (n : ℕ) → ofOutcome o ≡ bears n → In n (walkNumbers P)
+    go entries s (stopped r) e =
+        only-of (walkNumbers P) (bears (r .number))
+        (walk-numbered (λ n. In n (walkNumbers P)) (may 1 refl, may 2 refl, may 3 refl, may 4 refl, may 11 refl, may 12 refl) (record { profile = P; entries = entries }) (in-barred P (1 ∷ 2 ∷ 3 ∷ 4 ∷ 11 ∷ 12 ∷ [])) s r e .one)
+    go entries s (ended at next st) e = only-of (walkNumbers P) none tt
+
+-- of order 2's walk, in the usual profile
+pub stop-exactly : Exactly (λ (s : List ℕ). ofOutcome (walked (requests.reader Usual) s)) stopNumbers
+unfolding numberAt wellFormed octets isAscii kindOf criticalOf kind critical size there shapeOf rowOf short uneven notNumber notHalves notUtf8 firstOf notName faultOf faultBy asksOf isFinal shapeIn knows allows actIn has meet judge step walk behind walked actBy requests.act requests.once
+stop-exactly = record {
+  only = λ s. go s (walked (requests.reader Usual) s) refl;
+  each = (([], refl), ((odd-error, refl), ((unknown-set, refl), ((an-error, refl), tt))));
+}
+  where
+    go : (s : List ℕ) (o : Outcome) → walked (requests.reader Usual) s ≡ o → (n : ℕ) → ofOutcome o ≡ bears n → In n stopNumbers
+    go s (stopped r) e = only-of stopNumbers (bears (r .number)) (stop-numbered (λ n. In n stopNumbers) (refl, refl, refl, refl) Usual tt s r e .one)
     go s (ended at next st) e = only-of stopNumbers none tt
 
-pub request-exactly : Exactly (λ (x : Read). ofAnswer (request (x .message) (x .limit) (x .room))) requestNumbers
-unfolding numberAt wellFormed octets kindOf criticalOf kind critical size there shapeOf rowOf isUnknown short uneven notNumber notHalves notUtf8 firstOf notName faultOf faultIn actIn has meet judge step walk finish readBy known actBy requests.act requests.once requests.keyed requests.fixedBy requests.decide request describe
-request-exactly = record {
-  only = λ x. answer-only requestNumbers (request (x .message) (x .limit) (x .room))
-      (λ r e. request-numbered (λ n. In n requestNumbers) (refl, refl, refl, refl, refl, refl, refl) (x .message) (x .limit) (x .room) r e .one);
+pub request-exactly : (P : Profile) → Exactly (λ (x : Read). ofAnswer (request P (x .message) (x .limit) (x .room))) (requestNumbers P)
+unfolding numberAt wellFormed octets isAscii kindOf criticalOf kind critical size there shapeOf rowOf short uneven notNumber notHalves notUtf8 firstOf notName faultOf faultBy asksOf isFinal shapeIn knows allows actIn has meet judge step walk behind walked finish readAs actBy requests.act requests.once requests.keyed requests.fixedBy requests.decide request describe
+request-exactly Usual = record {
+  only = λ x. answer-only (requestNumbers Usual) (request Usual (x .message) (x .limit) (x .room))
+      (λ r e. request-numbered (λ n. In n (requestNumbers Usual)) (refl, refl, refl, refl, refl, refl, refl) Usual tt (x .message) (x .limit) (x .room) r e .one);
   each = (
     (asked [], refl),
     (
@@ -184,21 +262,27 @@ request-exactly = record {
     ),
   );
 }
+-- keys and denied names are unknown to it
+request-exactly Strict = record {
+  only = λ x. answer-only (requestNumbers Strict) (request Strict (x .message) (x .limit) (x .room))
+      (λ r e. strict-numbered (λ n. In n (requestNumbers Strict)) (refl, refl, refl, refl) refl (x .message) (x .limit) (x .room) r e);
+  each = ((asked bit-clear, refl), ((asked [], refl), ((asked odd-error, refl), ((asked unknown-set, refl), ((asked end, refl), tt)))));
+}
 
--- a message, its own finding and the same room: so each number that the reader tells is told from a finding
-from-own : (x : Read) (n : ℕ) → ofAnswer (request (x .message) (x .limit) (x .room)) ≡ bears n → (y : Decided) × (ofAnswer (requests.decided (y .found) (y .message) (y .room)) ≡ bears n)
-from-own x n p = (record { found = foundBy requests.reader (x .message) (x .limit); message = x .message; room = x .room }, ap ofAnswer (decided-own (x .message) (x .limit) (x .room)) ∙ p)
+-- a message, its own finding and the same room: so each number that the reader tells in the usual profile is told from a finding
+from-own : (x : Read) (n : ℕ) → ofAnswer (request Usual (x .message) (x .limit) (x .room)) ≡ bears n → (y : Decided) × (ofAnswer (requests.decided (y .found) (y .message) (y .room)) ≡ bears n)
+from-own x n p = (record { found = foundBy (requests.reader Usual) (x .message) (x .limit); message = x .message; room = x .room }, ap ofAnswer (decided-own (x .message) (x .limit) (x .room)) ∙ p)
 
 pub decide-exactly : Exactly (λ (x : Decided). ofAnswer (requests.decided (x .found) (x .message) (x .room))) decideNumbers
-unfolding requests.decided foundBy sameFound walk
+unfolding requests.decided foundBy sameFound walk behind walked
 decide-exactly = record {
   only = λ x. answer-only decideNumbers (requests.decided (x .found) (x .message) (x .room))
       (decided-by (x .found) (x .message) (x .room) (λ a. (r : Refused) → a ≡ refusing.refused r → In (r .number) decideNumbers)
-      (λ r e. request-numbered (λ n. In n decideNumbers) (refl, refl, refl, refl, refl, refl, refl) (x .message) (x .found .limit) (x .room) r e .one)
+      (λ r e. request-numbered (λ n. In n decideNumbers) (refl, refl, refl, refl, refl, refl, refl) Usual tt (x .message) (x .found .limit) (x .room) r e .one)
       (λ r e. let z : 9 ≡ r .number = cc in rw (← z)));
   each = (
     (record { found = record { limit = 0; cells = replicate 45 0; way = wayEnded 0 }; message = []; room = 0 }, refl),
-    all-map {P = λ (n : ℕ). (x : Read) × (ofAnswer (request (x .message) (x .limit) (x .room)) ≡ bears n)} requestNumbers (λ n p. from-own (p .0) n (p .1)) (request-exactly .each),
+    all-map {P = λ (n : ℕ). (x : Read) × (ofAnswer (request Usual (x .message) (x .limit) (x .room)) ≡ bears n)} (requestNumbers Usual) (λ n p. from-own (p .0) n (p .1)) (request-exactly Usual .each),
   );
 }
 
@@ -206,31 +290,34 @@ decide-exactly = record {
 abbrev replied : List ℕ → ReadReply
 replied m = record { message = m; limit = 64; terms = replies.offering (0 ∷ []) (15 ∷ []) 0 }
 
-pub reply-exactly : Exactly (λ (x : ReadReply). ofAnswer (replyOf (x .message) (x .limit) (x .terms))) replyNumbers
-unfolding numberAt kindOf criticalOf kind critical size there shapeOf rowOf isUnknown short uneven notNumber faultOf faultIn actIn has meet judge step walk finish readBy known actBy replies.act replies.once replies.decide replyOf
-reply-exactly = record {
-  only = λ x. answer-only replyNumbers (replyOf (x .message) (x .limit) (x .terms))
-      (λ r e. reply-numbered (λ n. In n replyNumbers) (refl, refl, refl, refl, refl, refl, refl, refl, refl, refl, refl) (x .message) (x .limit) (x .terms) r e .one);
-  each = (
-    (replied [], refl),
+abbrev replyBears : Profile → ReadReply → Number
+replyBears P x = ofAnswer (replyOf P (x .message) (x .limit) (x .terms))
+
+-- the numbers of every profile
+abbrev replyBoth : List ℕ
+replyBoth = 1 ∷ 2 ∷ 3 ∷ 4 ∷ 7 ∷ 11 ∷ 12 ∷ 13 ∷ 14 ∷ 15 ∷ 17 ∷ []
+
+reply-each : (P : Profile) → All (Bears replyBears P) replyBoth
+unfolding numberAt wellFormed octets isAscii kindOf criticalOf kind critical size there shapeOf rowOf short uneven notNumber notHalves notUtf8 firstOf notName faultOf faultBy asksOf isFinal shapeIn knows allows actIn has meet judge step walk behind walked finish readAs actBy replies.act replies.once replies.decide replyOf
+reply-each P = (
+  both replyBears 1 (replied []) refl refl P,
+  (
+    both replyBears 2 (replied odd-error) refl refl P,
     (
-      (replied odd-error, refl),
+      both replyBears 3 (replied unknown-set) refl refl P,
       (
-        (replied unknown-set, refl),
+        both replyBears 4 (replied end) refl refl P,
         (
-          (replied end, refl),
+          both replyBears 7 (replied (0 ∷ 5 ∷ 0 ∷ 0 ∷ lists 15 end)) refl refl P,
           (
-            (replied (0 ∷ 5 ∷ 0 ∷ 0 ∷ lists 15 end), refl),
+            both replyBears 11 (replied an-error) refl refl P,
             (
-              (replied (128 ∷ 2 ∷ 0 ∷ 2 ∷ 0 ∷ 1 ∷ []), refl),
+              both replyBears 12 (replied a-warning) refl refl P,
               (
-                (replied (128 ∷ 3 ∷ 0 ∷ 2 ∷ 0 ∷ 1 ∷ []), refl),
+                both replyBears 13 (replied (128 ∷ 1 ∷ 0 ∷ 0 ∷ end)) refl refl P,
                 (
-                  (replied (128 ∷ 1 ∷ 0 ∷ 0 ∷ end), refl),
-                  (
-                    (replied (128 ∷ 1 ∷ 0 ∷ 2 ∷ 0 ∷ 0 ∷ 128 ∷ 4 ∷ 0 ∷ 0 ∷ end), refl),
-                    ((replied (lists 15 end), refl), ((replied (lists 17 end), refl), tt)),
-                  ),
+                  both replyBears 14 (replied (128 ∷ 1 ∷ 0 ∷ 2 ∷ 0 ∷ 0 ∷ 128 ∷ 4 ∷ 0 ∷ 0 ∷ end)) refl refl P,
+                  (both replyBears 15 (replied (lists 15 end)) refl refl P, (both replyBears 17 (replied (lists 17 end)) refl refl P, tt)),
                 ),
               ),
             ),
@@ -238,8 +325,19 @@ reply-exactly = record {
         ),
       ),
     ),
-  );
+  ),
+)
+
+pub reply-exactly : (P : Profile) → Exactly (λ (x : ReadReply). ofAnswer (replyOf P (x .message) (x .limit) (x .terms))) (replyNumbers P)
+unfolding numberAt wellFormed octets isAscii kindOf criticalOf kind critical size there shapeOf rowOf short uneven notNumber notHalves notUtf8 firstOf notName faultOf faultBy asksOf isFinal shapeIn knows allows actIn has meet judge step walk behind walked finish readAs actBy replies.act replies.once replies.decide replyOf
+reply-exactly P = record {
+  only = λ x. answer-only (replyNumbers P) (replyOf P (x .message) (x .limit) (x .terms))
+      (λ r e. reply-numbered (λ n. In n (replyNumbers P)) (may 1 refl, may 2 refl, may 3 refl, may 4 refl, may 7 refl, may 11 refl, may 12 refl, may 13 refl, may 14 refl, may 15 refl, may 17 refl) P (in-barred P replyBoth) (x .message) (x .limit) (x .terms) r e .one);
+  each = or-each replyBears replyBoth reply-each (replied bit-clear) refl P;
 }
+  where
+    may : (n : ℕ) → In n replyBoth → In n (replyNumbers P)
+    may n h = in-or P replyBoth n h
 
 -- ---- a table
 

@@ -1,22 +1,25 @@
 -- That demand 3's theorems are about messages that exist: one of each request kind, computed to be accepted, and each theorem applied to it,
 -- with an order that is not its own and an unknown record in its middle.
 -- Assumes nothing.
-use mathlib.Core.Path.{_≡_, refl}
+use mathlib.Core.Path.{_≡_, refl, sym}
 use mathlib.Core.List.{List, [], _∷_, _++_, List·Permᴰ, List·Permᴰ·cons, List·Permᴰ·swap, List·Permᴰ·trans}
-use mathlib.Core.Bool.{true, false}
+use mathlib.Core.Bool.{true, false, true≢false}
 use Prim.Native.Nat.{ℕ, suc}
 use native.Mathlib.Omega.{arith}
 use lib.ListN.{replicate}
 use Rattle.wire.specs.Bytes.{numberAt}
+use Rattle.utf8.specs.Ascii.{isAscii}
 use Rattle.utf8.specs.Utf8 as utf8
 use Rattle.nts.specs.Refusal.{nothing}
 use Rattle.nts.specs.Algorithm.{describe}
-use Rattle.layout.specs.Table.{rowOf, shapeOf, isUnknown}
-use Rattle.record.specs.Record.{kindOf, criticalOf, kind, critical, size, there, short, uneven, notNumber, notHalves, notUtf8, firstOf, notName, faultOf}
-use Rattle.walk.specs.Walk.{Sighting, faultIn, actIn, has, meet, judge, step, walk}
-use Rattle.walk.specs.Judge.{roomFor, Under, refused, accepted, finish, readBy}
+use Rattle.layout.specs.Table.{rowOf, shapeOf}
+use Rattle.layout.specs.Profile.{asksOf, isFinal, shapeIn, knows, allows}
+use Rattle.layout.specs.declared.Profile.the-variants.{Usual}
+use Rattle.record.specs.Record.{kindOf, criticalOf, kind, critical, size, there, short, uneven, notNumber, notHalves, notUtf8, firstOf, notName, faultOf, faultBy}
+use Rattle.walk.specs.Walk.{Sighting, actIn, has, meet, judge, step, walk, behind, walked}
+use Rattle.walk.specs.Judge.{roomFor, Under, refused, accepted, finish, readAs}
 use Rattle.walk.specs.Message.{Whole, Record, End, Each, message, Parts}
-use Rattle.walk.specs.Table.{known, actBy}
+use Rattle.walk.specs.Table.{actBy}
 use Rattle.walk.proofs.Demand3.{Showing}
 use Rattle.request.specs.Request.{act, once, Form, keyExchange, fixedKey, support, keyed, fixedBy, decide, request}
 use Rattle.request.proofs.Order.{shows, reading, request-ordered}
@@ -74,7 +77,12 @@ tail = 1 ∷ 2 ∷ 3 ∷ []
 
 -- under a limit of 100 bytes
 abbrev pub asked : ℕ → Under
-asked room = record { limit = 100; terms = roomFor room }
+asked room = record { profile = Usual; limit = 100; terms = roomFor room }
+
+-- the usual profile asks nothing of what follows the end record
+pub any-tail : {t : List ℕ} → isFinal Usual ≡ true → tail ≡ t
+unfolding isFinal
+any-tail e = absurd (true≢false (sym e))
 
 pub a-record : (c : List ℕ) (k : ℕ) → Whole c → kind c ≡ suc k → Record c
 a-record c k w e = (w, λ z. omega arith)
@@ -137,11 +145,11 @@ fixed-answer = fixedKey (sighting 14 72 1) (sighting 12 4 64) (sighting 4 83 2) 
 abbrev lists-answer : Form Sighting
 lists-answer = support (sighting 14 4 1) true false true
 
-computed : (request (message exchange end []) 100 2 ≡ accepted exchange-answer)
-    × (request (message fixed end []) 100 0 ≡ accepted fixed-answer)
-    × (request (message lists end []) 100 0 ≡ accepted lists-answer)
-    × (request (message twice end []) 100 2 ≡ accepted twice-answer)
-unfolding numberAt utf8.tail utf8.rows utf8.fits utf8.charSize utf8.octets utf8.wellFormed describe kindOf criticalOf kind critical size there shapeOf short uneven notNumber notHalves notUtf8 firstOf notName faultOf faultIn actIn has meet judge step walk finish readBy known isUnknown rowOf actBy act once keyed fixedBy decide request
+computed : (request Usual (message exchange end []) 100 2 ≡ accepted exchange-answer)
+    × (request Usual (message fixed end []) 100 0 ≡ accepted fixed-answer)
+    × (request Usual (message lists end []) 100 0 ≡ accepted lists-answer)
+    × (request Usual (message twice end []) 100 2 ≡ accepted twice-answer)
+unfolding numberAt utf8.tail utf8.rows utf8.fits utf8.charSize utf8.octets utf8.wellFormed describe kindOf criticalOf kind critical size there shapeOf short uneven notNumber notHalves notUtf8 firstOf notName faultOf faultBy actIn has meet judge step walk behind walked finish readAs asksOf isFinal shapeIn knows allows isAscii rowOf actBy act once keyed fixedBy decide request
 computed = (refl, refl, refl, refl)
 
 -- ---- key exchange, with two denied names
@@ -163,7 +171,7 @@ exchange-is = request-ordered .accepted-is (message exchange end []) (asked 2) e
 
 exchange-reordered : Showing reading shows (message exchange′ end tail) (asked 2) (keyExchange (0 ∷ 0 ∷ []) (0 ∷ 15 ∷ []) ((97 ∷ []) ∷ (98 ∷ []) ∷ []))
 unfolding request numberAt kindOf kind size there
-exchange-reordered = request-ordered .reordered (asked 2) exchange exchange′ end [] tail exchange-answer exchange-records the-end exchange-order refl refl (computed .0)
+exchange-reordered = request-ordered .reordered (asked 2) exchange exchange′ end [] tail exchange-answer exchange-records the-end exchange-order any-tail refl refl (computed .0)
 
 twice-records : Each Record twice
 unfolding numberAt kindOf kind size
@@ -174,17 +182,17 @@ twice-other e = let z : _≡_ {A = ℕ} 0 128 = cc in omega arith
 
 twice-reordered : Showing reading shows (message twice′ end tail) (asked 2) (keyExchange (0 ∷ 0 ∷ []) (0 ∷ 15 ∷ []) ((97 ∷ []) ∷ (97 ∷ []) ∷ []))
 unfolding request numberAt kindOf kind size there
-twice-reordered = request-ordered .reordered (asked 2) twice twice′ end [] tail twice-answer twice-records the-end twice-order refl refl (computed .3)
+twice-reordered = request-ordered .reordered (asked 2) twice twice′ end [] tail twice-answer twice-records the-end twice-order any-tail refl refl (computed .3)
 
 -- the unknown record stands just before the algorithms
 exchange-inserted : Showing reading shows (message (protocols ∷ name-a ∷ unknown ∷ algorithms ∷ name-b ∷ []) end tail) (asked 2) (keyExchange (0 ∷ 0 ∷ []) (0 ∷ 15 ∷ []) ((97 ∷ []) ∷ (98 ∷ []) ∷ []))
-unfolding request numberAt kindOf criticalOf kind critical size known isUnknown shapeOf rowOf
+unfolding request numberAt kindOf criticalOf kind critical size isFinal knows shapeIn asksOf shapeOf rowOf
 exchange-inserted =
-    request-ordered .inserted (asked 2) (protocols ∷ name-a ∷ []) (algorithms ∷ name-b ∷ []) unknown end [] tail exchange-answer exchange-records the-end refl refl refl (omega arith)
+    request-ordered .inserted (asked 2) (protocols ∷ name-a ∷ []) (algorithms ∷ name-b ∷ []) unknown end [] tail exchange-answer exchange-records the-end any-tail refl refl refl (omega arith)
     (computed .0)
 
-exchange-refused : request (message (protocols ∷ name-a ∷ unknown-set ∷ algorithms ∷ name-b ∷ []) end tail) 100 2 ≡ refused (record { number = 3; beside = nothing; place = 11 })
-unfolding request numberAt kindOf criticalOf kind critical size known isUnknown shapeOf rowOf
+exchange-refused : request Usual (message (protocols ∷ name-a ∷ unknown-set ∷ algorithms ∷ name-b ∷ []) end tail) 100 2 ≡ refused (record { number = 3; beside = nothing; place = 11 })
+unfolding request numberAt kindOf criticalOf kind critical size isFinal knows shapeIn asksOf shapeOf rowOf
 exchange-refused =
     request-ordered .inserted-critical (asked 2) (protocols ∷ name-a ∷ []) (algorithms ∷ name-b ∷ []) unknown-set end [] tail exchange-answer exchange-records the-end refl refl refl (omega arith)
     (computed .0)
@@ -204,15 +212,15 @@ fixed-is = request-ordered .accepted-is (message fixed end []) (asked 0) fixed-a
 
 fixed-reordered : Showing reading shows (message fixed′ end tail) (asked 0) (fixedKey (107 ∷ []) two-keys (0 ∷ 15 ∷ []) (0 ∷ 0 ∷ []) true)
 unfolding request numberAt kindOf kind size there
-fixed-reordered = request-ordered .reordered (asked 0) fixed fixed′ end [] tail fixed-answer fixed-records the-end fixed-order refl refl (computed .1)
+fixed-reordered = request-ordered .reordered (asked 0) fixed fixed′ end [] tail fixed-answer fixed-records the-end fixed-order any-tail refl refl (computed .1)
 
 -- just before the end record
 fixed-inserted : Showing reading shows (message (keys ∷ authentication ∷ protocols ∷ algorithms ∷ keep-alive ∷ unknown ∷ []) end tail) (asked 0) (fixedKey (107 ∷ []) two-keys (0 ∷ 15 ∷ []) (0 ∷ 0 ∷ []) true)
-unfolding request numberAt kindOf criticalOf kind critical size known isUnknown shapeOf rowOf
-fixed-inserted = request-ordered .inserted (asked 0) fixed [] unknown end [] tail fixed-answer fixed-records the-end refl refl refl (omega arith) (computed .1)
+unfolding request numberAt kindOf criticalOf kind critical size isFinal knows shapeIn asksOf shapeOf rowOf
+fixed-inserted = request-ordered .inserted (asked 0) fixed [] unknown end [] tail fixed-answer fixed-records the-end any-tail refl refl refl (omega arith) (computed .1)
 
-fixed-refused : request (message (keys ∷ authentication ∷ protocols ∷ algorithms ∷ keep-alive ∷ unknown-set ∷ []) end tail) 100 0 ≡ refused (record { number = 3; beside = nothing; place = 89 })
-unfolding request numberAt kindOf criticalOf kind critical size known isUnknown shapeOf rowOf
+fixed-refused : request Usual (message (keys ∷ authentication ∷ protocols ∷ algorithms ∷ keep-alive ∷ unknown-set ∷ []) end tail) 100 0 ≡ refused (record { number = 3; beside = nothing; place = 89 })
+unfolding request numberAt kindOf criticalOf kind critical size isFinal knows shapeIn asksOf shapeOf rowOf
 fixed-refused = request-ordered .inserted-critical (asked 0) fixed [] unknown-set end [] tail fixed-answer fixed-records the-end refl refl refl (omega arith) (computed .1)
 
 -- ---- what is supported
@@ -230,13 +238,13 @@ lists-is = request-ordered .accepted-is (message lists end []) (asked 0) lists-a
 
 lists-reordered : Showing reading shows (message lists′ end tail) (asked 0) (support (107 ∷ []) true false true)
 unfolding request numberAt kindOf kind size there
-lists-reordered = request-ordered .reordered (asked 0) lists lists′ end [] tail lists-answer lists-records the-end lists-order refl refl (computed .2)
+lists-reordered = request-ordered .reordered (asked 0) lists lists′ end [] tail lists-answer lists-records the-end lists-order any-tail refl refl (computed .2)
 
 -- as the first record
 lists-inserted : Showing reading shows (message (unknown ∷ authentication ∷ wanted-protocols ∷ keep-alive ∷ []) end tail) (asked 0) (support (107 ∷ []) true false true)
-unfolding request numberAt kindOf criticalOf kind critical size known isUnknown shapeOf rowOf
-lists-inserted = request-ordered .inserted (asked 0) [] lists unknown end [] tail lists-answer lists-records the-end refl refl refl (omega arith) (computed .2)
+unfolding request numberAt kindOf criticalOf kind critical size isFinal knows shapeIn asksOf shapeOf rowOf
+lists-inserted = request-ordered .inserted (asked 0) [] lists unknown end [] tail lists-answer lists-records the-end any-tail refl refl refl (omega arith) (computed .2)
 
-lists-refused : request (message (unknown-set ∷ authentication ∷ wanted-protocols ∷ keep-alive ∷ []) end tail) 100 0 ≡ refused (record { number = 3; beside = nothing; place = 0 })
-unfolding request numberAt kindOf criticalOf kind critical size known isUnknown shapeOf rowOf
+lists-refused : request Usual (message (unknown-set ∷ authentication ∷ wanted-protocols ∷ keep-alive ∷ []) end tail) 100 0 ≡ refused (record { number = 3; beside = nothing; place = 0 })
+unfolding request numberAt kindOf criticalOf kind critical size isFinal knows shapeIn asksOf shapeOf rowOf
 lists-refused = request-ordered .inserted-critical (asked 0) [] lists unknown-set end [] tail lists-answer lists-records the-end refl refl refl (omega arith) (computed .2)

@@ -31,7 +31,7 @@ use Rattle.pieces.specs.Pieces.{Brought, Read, nothingYet, says}
 use Rattle.pieces.specs.Reads.{requestRead, replyRead}
 use Rattle.reading.specs.Read.{requestGiven, replyGiven, recordGiven}
 use Rattle.feeding.specs.Fed.{isConnection, lineIn, saysIn}
-use Rattle.feeding.proofs.Answering.{host-request, host-reply, request-seventeenth, reply-seventeenth, fed-granted, fed-waits}
+use Rattle.feeding.proofs.Answering.{host-request, host-reply, request-eighteenth, reply-eighteenth, fed-granted, fed-waits}
 use Rattle.promises.proofs.Closing.{closed-says}
 use Rattle.handing.specs.Handed.{choiceGiven, protocolGiven, keyGiven}
 use Rattle.planning.specs.Planned.{planIn, changed, grownGiven, appended, plannedLength, plannedReply, plannedBytes}
@@ -119,33 +119,33 @@ decide-request-granted κs a r e p z = gives-granted (p .gives) (sure-of (decide
 
 pub feed-request-granted : (κs : _) (a : _) (r : _) (e : _) → feed-request.Learnt κs a r e → r ≡ 0
     → FedAccepted requestRead requestGiven (now (a .0)) (now (a .1 .1 .0)) (record { piece = now (a .1 .0); closed = false }) (roomFor (roomOf (now (a .1 .1 .1 .0)))) (now (e .1 .1 .1 .1 .0))
-feed-request-granted κs a r e p z = fed-granted host-request request-seventeenth p z
+feed-request-granted κs a r e p z = fed-granted host-request request-eighteenth p z
 
 pub feed-request-waits : (κs : _) (a : _) (r : _) (e : _) → feed-request.Learnt κs a r e → r ≡ 65535
     → FedWaits requestRead (now (a .0)) (now (a .1 .1 .0)) (record { piece = now (a .1 .0); closed = false }) (roomFor (roomOf (now (a .1 .1 .1 .0))))
-feed-request-waits κs a r e p z = fed-waits host-request request-seventeenth p z
+feed-request-waits κs a r e p z = fed-waits host-request request-eighteenth p z
 
 pub close-request-granted : (κs : _) (a : _) (r : _) (e : _) → close-request.Learnt κs a r e → r ≡ 0
     → FedAccepted requestRead requestGiven (now (a .0)) (now (a .1 .0)) (record { piece = []; closed = true }) (roomFor (roomOf (now (a .1 .1 .0)))) (now (e .1 .1 .1 .0))
-close-request-granted κs a r e p z = fed-granted host-request request-seventeenth p z
+close-request-granted κs a r e p z = fed-granted host-request request-eighteenth p z
 
 pub close-request-decides : (κs : _) (a : _) (r : _) (e : _) → close-request.Learnt κs a r e → r ≡ 65535 → ⊥
-close-request-decides κs a r e p z = closed-says requestRead (lineIn (now (a .0))) (now (a .1 .0)) (record { piece = []; closed = true }) refl _ (roomFor (roomOf (now (a .1 .1 .0)))) (fed-waits host-request request-seventeenth p z .1)
+close-request-decides κs a r e p z = closed-says requestRead (lineIn (now (a .0))) (now (a .1 .0)) (record { piece = []; closed = true }) refl _ (roomFor (roomOf (now (a .1 .1 .0)))) (fed-waits host-request request-eighteenth p z .1)
 
 pub feed-reply-granted : (κs : _) (a : _) (r : _) (e : _) → feed-reply.Learnt κs a r e → r ≡ 0
     → FedAccepted replyRead replyGiven (now (a .0)) (now (a .1 .1 .1 .1 .0)) (record { piece = now (a .1 .0); closed = false }) (offering (now (a .1 .1 .0)) (now (a .1 .1 .1 .0)) (roomOf (now (a .1 .1 .1 .1 .1 .0)))) (now (e .1 .1 .1 .1 .1 .1 .0))
-feed-reply-granted κs a r e p z = fed-granted host-reply reply-seventeenth p z
+feed-reply-granted κs a r e p z = fed-granted host-reply reply-eighteenth p z
 
 pub feed-reply-waits : (κs : _) (a : _) (r : _) (e : _) → feed-reply.Learnt κs a r e → r ≡ 65535
     → FedWaits replyRead (now (a .0)) (now (a .1 .1 .1 .1 .0)) (record { piece = now (a .1 .0); closed = false }) (offering (now (a .1 .1 .0)) (now (a .1 .1 .1 .0)) (roomOf (now (a .1 .1 .1 .1 .1 .0))))
-feed-reply-waits κs a r e p z = fed-waits host-reply reply-seventeenth p z
+feed-reply-waits κs a r e p z = fed-waits host-reply reply-eighteenth p z
 
 pub close-reply-granted : (κs : _) (a : _) (r : _) (e : _) → close-reply.Learnt κs a r e → r ≡ 0
     → FedAccepted replyRead replyGiven (now (a .0)) (now (a .1 .1 .1 .0)) (record { piece = []; closed = true }) (offering (now (a .1 .0)) (now (a .1 .1 .0)) (roomOf (now (a .1 .1 .1 .1 .0)))) (now (e .1 .1 .1 .1 .1 .0))
-close-reply-granted κs a r e p z = fed-granted host-reply reply-seventeenth p z
+close-reply-granted κs a r e p z = fed-granted host-reply reply-eighteenth p z
 
 pub close-reply-decides : (κs : _) (a : _) (r : _) (e : _) → close-reply.Learnt κs a r e → r ≡ 65535 → ⊥
-close-reply-decides κs a r e p z = closed-says replyRead (lineIn (now (a .0))) (now (a .1 .1 .1 .0)) (record { piece = []; closed = true }) refl _ (offering (now (a .1 .0)) (now (a .1 .1 .0)) (roomOf (now (a .1 .1 .1 .1 .0)))) (fed-waits host-reply reply-seventeenth p z .1)
+close-reply-decides κs a r e p z = closed-says replyRead (lineIn (now (a .0))) (now (a .1 .1 .1 .0)) (record { piece = []; closed = true }) refl _ (offering (now (a .1 .0)) (now (a .1 .1 .0)) (roomOf (now (a .1 .1 .1 .1 .0)))) (fed-waits host-reply reply-eighteenth p z .1)
 
 -- ---- a plan, its length and its reply
 

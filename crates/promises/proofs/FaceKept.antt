@@ -1,7 +1,7 @@
 -- Demand 1 for every call that a host links and that has memory lent to it for writing: "A refusal bears its number from document 01 and changes no lent table or
 -- buffer." Each call returns one word. The first theorems say what that word is of the readers of whole messages; those that follow say of each call, over its own
 -- contract, that a word which is not 0 leaves all that was lent as it was, and that its number, the word's remainder by 256, is one of the call's set
--- (specs/Numbers.antt). Seven calls refuse nothing. Of the calls that feed a read in pieces a word that is neither 0 nor 65,535 refuses: neither it nor 65,535, which waits,
+-- (specs/Numbers.antt). Eight calls refuse nothing. Of the calls that feed a read in pieces a word that is neither 0 nor 65,535 refuses: neither it nor 65,535, which waits,
 -- changes the table or the answer's cells; connection and buffer may change (02, order 1), and what changes nothing of them is said, too. That each number of a set is told:
 -- Exact.antt, ExactFace.antt, and of a read in pieces, over the definition, ExactFed.antt. What a word that is 0 says: FaceGranted.antt.
 -- Assumes nothing.
@@ -16,6 +16,8 @@ use Rattle.wire.specs.Over.{over}
 use Rattle.wire.proofs.Over.{over-none}
 use Rattle.nts.specs.Refusal.{code, besideNumber, Refused}
 use Rattle.nts.specs.Algorithm.{Described, known, unknown, describe}
+use Rattle.layout.specs.declared.Profile.{Profile}
+use Rattle.layout.specs.declared.Profile.the-variants.{Usual, Strict}
 use Rattle.walk.specs.Walk.{Sighting}
 use Rattle.walk.specs.Judge.{refused, accepted}
 use Rattle.walk.specs.Judge as judge
@@ -33,11 +35,14 @@ use Rattle.handing.specs.Handed.{keyGiven}
 use Rattle.reading.specs.Read.{ReadsRequest, ReadsReply}
 use Rattle.reading.proofs.ntske_read_request.Reads as read-request
 use Rattle.reading.proofs.ntske_read_reply.Reads as read-reply
+use Rattle.reading.proofs.ntske_read_request_strict.Reads as read-request-strict
+use Rattle.reading.proofs.ntske_read_reply_strict.Reads as read-reply-strict
 use Rattle.reading.proofs.ntske_read_record.Reads as read-record
 use Rattle.deciding.specs.Given.{foundIn}
 use Rattle.deciding.proofs.ntske_walk_request.Reads as walk-request
 use Rattle.deciding.proofs.ntske_decide_request.Reads as decide-request
 use Rattle.feeding.proofs.ntske_connection_new.Reads as connection-new
+use Rattle.feeding.proofs.ntske_connection_new_strict.Reads as connection-new-strict
 use Rattle.feeding.proofs.ntske_feed_request.Reads as feed-request
 use Rattle.feeding.proofs.ntske_close_request.Reads as close-request
 use Rattle.feeding.proofs.ntske_feed_reply.Reads as feed-reply
@@ -86,36 +91,36 @@ use Rattle.promises.proofs.HostedFed.{fed-request-refuses, fed-reply-re
 
 -- ---- the readers' word
 
--- ntske_read_request on the message m under the limit n
-module _ (m : List ℕ) (n : ℕ) (table lent : List ℕ) (r : ℕ) (table′ after : List ℕ) (c : ReadsRequest m n table lent r table′ after) where
+-- ntske_read_request, and in the strict profile ntske_read_request_strict, on the message m under the limit n
+module _ (P : Profile) (m : List ℕ) (n : ℕ) (table lent : List ℕ) (r : ℕ) (table′ after : List ℕ) (c : ReadsRequest P m n table lent r table′ after) where
   -- it is 0 only where nothing is refused ..
-  pub request-word : r ≡ 0 → (q : requests.Form Sighting) × (request m n (roomOf table) ≡ accepted q)
-  request-word = granted hosted-request c
+  pub request-word : r ≡ 0 → (q : requests.Form Sighting) × (request P m n (roomOf table) ≡ accepted q)
+  request-word = granted (hosted-request P) c
 
   -- .. and otherwise that of the refusal, whose number is one of these ..
-  pub request-bears : (r ≡ 0 → ⊥) → (y : Refused) × (request m n (roomOf table) ≡ refused y) × (r ≡ word y) × In (y .number) requestNumbers
+  pub request-bears : (r ≡ 0 → ⊥) → (y : Refused) × (request P m n (roomOf table) ≡ refused y) × (r ≡ word y) × In (y .number) (requestNumbers P)
   request-bears h =
-      let y = bears hosted-request c h in
-      (y .0, y .1, y .2, request-exactly .only (record { message = m; limit = n; room = roomOf table }) (y .0 .number) (ap ofAnswer (y .1)))
+      let y = bears (hosted-request P) c h in
+      (y .0, y .1, y .2, request-exactly P .only (record { message = m; limit = n; room = roomOf table }) (y .0 .number) (ap ofAnswer (y .1)))
 
   -- .. and which it tells whole: the number, the number beside it, and the place. A message is bytes
-  pub request-told : (y : Refused) → request m n (roomOf table) ≡ refused y → ((i : ℕ) → getD m i 0 < 256)
+  pub request-told : (y : Refused) → request P m n (roomOf table) ≡ refused y → ((i : ℕ) → getD m i 0 < 256)
       → (r % 256 ≡ y .number) × (r / 256 % 256 ≡ sortOf (y .beside)) × (r / 65536 % 65536 ≡ besideNumber (y .beside)) × (r / 4294967296 ≡ y .place)
-  request-told = told-apart hosted-request c
+  request-told = told-apart (hosted-request P) c
 
--- ntske_read_reply in the same way
-module _ (m : List ℕ) (n : ℕ) (ps qs table lent : List ℕ) (r : ℕ) (table′ after : List ℕ) (c : ReadsReply m n ps qs table lent r table′ after) where
-  pub reply-word : r ≡ 0 → (q : replies.Form Sighting) × (replyOf m n (offering ps qs (roomOf table)) ≡ accepted q)
-  reply-word = granted hosted-reply {e = (ps, qs)} c
+-- ntske_read_reply and ntske_read_reply_strict in the same way
+module _ (P : Profile) (m : List ℕ) (n : ℕ) (ps qs table lent : List ℕ) (r : ℕ) (table′ after : List ℕ) (c : ReadsReply P m n ps qs table lent r table′ after) where
+  pub reply-word : r ≡ 0 → (q : replies.Form Sighting) × (replyOf P m n (offering ps qs (roomOf table)) ≡ accepted q)
+  reply-word = granted (hosted-reply P) {e = (ps, qs)} c
 
-  pub reply-bears : (r ≡ 0 → ⊥) → (y : Refused) × (replyOf m n (offering ps qs (roomOf table)) ≡ refused y) × (r ≡ word y) × In (y .number) replyNumbers
+  pub reply-bears : (r ≡ 0 → ⊥) → (y : Refused) × (replyOf P m n (offering ps qs (roomOf table)) ≡ refused y) × (r ≡ word y) × In (y .number) (replyNumbers P)
   reply-bears h =
-      let y = bears hosted-reply {e = (ps, qs)} c h in
-      (y .0, y .1, y .2, reply-exactly .only (record { message = m; limit = n; terms = offering ps qs (roomOf table) }) (y .0 .number) (ap ofAnswer (y .1)))
+      let y = bears (hosted-reply P) {e = (ps, qs)} c h in
+      (y .0, y .1, y .2, reply-exactly P .only (record { message = m; limit = n; terms = offering ps qs (roomOf table) }) (y .0 .number) (ap ofAnswer (y .1)))
 
-  pub reply-told : (y : Refused) → replyOf m n (offering ps qs (roomOf table)) ≡ refused y → ((i : ℕ) → getD m i 0 < 256)
+  pub reply-told : (y : Refused) → replyOf P m n (offering ps qs (roomOf table)) ≡ refused y → ((i : ℕ) → getD m i 0 < 256)
       → (r % 256 ≡ y .number) × (r / 256 % 256 ≡ sortOf (y .beside)) × (r / 65536 % 65536 ≡ besideNumber (y .beside)) × (r / 4294967296 ≡ y .place)
-  reply-told = told-apart hosted-reply {e = (ps, qs)} c
+  reply-told = told-apart (hosted-reply P) {e = (ps, qs)} c
 
 -- ntske_key_length, where it refuses: 5, the algorithm's number beside it, which has sixteen bits, and no place
 pub key-length-told : (κs : _) (a : _) (r : _) (e : _) → key-length.Learnt κs a r e → a .0 < 65536 → (r ≡ 0 → ⊥)
@@ -130,13 +135,25 @@ key-length-told κs a r e p small h =
 
 -- ---- the calls of `reading`: the table of names or cookies, and the cells
 
-pub ntske-read-request-refuses : (κs : _) (a : _) (r : _) (e : _) → read-request.Learnt κs a r e → (r ≡ 0 → ⊥) → (now (e .1 .1 .0) ≡ now (a .1 .1 .0)) × (now (e .1 .1 .1 .0) ≡ now (a .1 .1 .1 .0)) × In (r % 256) requestNumbers
-ntske-read-request-refuses κs a r e p h = let k = kept hosted-request p h in (k .0, k .1, number-of (request-tells (now (a .0)) (a .1 .0) (roomOf (now (a .1 .1 .0)))) (p .gives) h)
+-- in any profile
+request-kept : {P : Profile} {m : List ℕ} {n : ℕ} {table lent : List ℕ} {r : ℕ} {table′ after : List ℕ} → ReadsRequest P m n table lent r table′ after → (r ≡ 0 → ⊥) → (table′ ≡ table) × (after ≡ lent) × In (r % 256) (requestNumbers P)
+request-kept {P} {m} {n} {table} p h = let k = kept (hosted-request P) p h in (k .0, k .1, number-of (request-tells P m n (roomOf table)) (p .gives) h)
 
-pub ntske-read-reply-refuses : (κs : _) (a : _) (r : _) (e : _) → read-reply.Learnt κs a r e → (r ≡ 0 → ⊥) → (now (e .1 .1 .1 .1 .0) ≡ now (a .1 .1 .1 .1 .0)) × (now (e .1 .1 .1 .1 .1 .0) ≡ now (a .1 .1 .1 .1 .1 .0)) × In (r % 256) replyNumbers
-ntske-read-reply-refuses κs a r e p h =
-    let k = kept hosted-reply {e = (now (a .1 .1 .0), now (a .1 .1 .1 .0))} p h in
-    (k .0, k .1, number-of (reply-tells (now (a .0)) (a .1 .0) (offering (now (a .1 .1 .0)) (now (a .1 .1 .1 .0)) (roomOf (now (a .1 .1 .1 .1 .0))))) (p .gives) h)
+reply-kept : {P : Profile} {m : List ℕ} {n : ℕ} (ps qs : List ℕ) {table lent : List ℕ} {r : ℕ} {table′ after : List ℕ} → ReadsReply P m n ps qs table lent r table′ after → (r ≡ 0 → ⊥)
+    → (table′ ≡ table) × (after ≡ lent) × In (r % 256) (replyNumbers P)
+reply-kept {P} {m} {n} ps qs {table} p h = let k = kept (hosted-reply P) {e = (ps, qs)} p h in (k .0, k .1, number-of (reply-tells P m n (offering ps qs (roomOf table))) (p .gives) h)
+
+pub ntske-read-request-refuses : (κs : _) (a : _) (r : _) (e : _) → read-request.Learnt κs a r e → (r ≡ 0 → ⊥) → (now (e .1 .1 .0) ≡ now (a .1 .1 .0)) × (now (e .1 .1 .1 .0) ≡ now (a .1 .1 .1 .0)) × In (r % 256) (requestNumbers Usual)
+ntske-read-request-refuses κs a r e p h = request-kept p h
+
+pub ntske-read-request-strict-refuses : (κs : _) (a : _) (r : _) (e : _) → read-request-strict.Learnt κs a r e → (r ≡ 0 → ⊥) → (now (e .1 .1 .0) ≡ now (a .1 .1 .0)) × (now (e .1 .1 .1 .0) ≡ now (a .1 .1 .1 .0)) × In (r % 256) (requestNumbers Strict)
+ntske-read-request-strict-refuses κs a r e p h = request-kept p h
+
+pub ntske-read-reply-refuses : (κs : _) (a : _) (r : _) (e : _) → read-reply.Learnt κs a r e → (r ≡ 0 → ⊥) → (now (e .1 .1 .1 .1 .0) ≡ now (a .1 .1 .1 .1 .0)) × (now (e .1 .1 .1 .1 .1 .0) ≡ now (a .1 .1 .1 .1 .1 .0)) × In (r % 256) (replyNumbers Usual)
+ntske-read-reply-refuses κs a r e p h = reply-kept (now (a .1 .1 .0)) (now (a .1 .1 .1 .0)) p h
+
+pub ntske-read-reply-strict-refuses : (κs : _) (a : _) (r : _) (e : _) → read-reply-strict.Learnt κs a r e → (r ≡ 0 → ⊥) → (now (e .1 .1 .1 .1 .0) ≡ now (a .1 .1 .1 .1 .0)) × (now (e .1 .1 .1 .1 .1 .0) ≡ now (a .1 .1 .1 .1 .1 .0)) × In (r % 256) (replyNumbers Strict)
+ntske-read-reply-strict-refuses κs a r e p h = reply-kept (now (a .1 .1 .0)) (now (a .1 .1 .1 .0)) p h
 
 pub ntske-read-record-refuses : (κs : _) (a : _) (r : _) (e : _) → read-record.Learnt κs a r e → (r ≡ 0 → ⊥) → (now (e .1 .1 .0) ≡ now (a .1 .1 .0)) × In (r % 256) recordNumbers
 ntske-read-record-refuses κs a r e p h = given-refuses (record-tells (now (a .0)) (a .1 .0)) p h
@@ -161,34 +178,38 @@ ntske-decide-request-refuses κs a r e p h =
 pub ntske-connection-new-refuses-nothing : (κs : _) (a : _) (r : _) (e : _) → connection-new.Learnt κs a r e → r ≡ 0
 ntske-connection-new-refuses-nothing κs a r e p = p .says
 
-pub ntske-feed-request-refuses : (κs : _) (a : _) (r : _) (e : _) → feed-request.Learnt κs a r e → (r ≡ 0 → ⊥) → (now (e .1 .1 .1 .0) ≡ now (a .1 .1 .1 .0)) × (now (e .1 .1 .1 .1 .0) ≡ now (a .1 .1 .1 .1 .0)) × ((r ≡ 65535 → ⊥) → In (r % 256) (orHeld (now (a .0)) feedRequestNumbers))
+pub ntske-connection-new-strict-refuses-nothing : (κs : _) (a : _) (r : _) (e : _) → connection-new-strict.Learnt κs a r e → r ≡ 0
+ntske-connection-new-strict-refuses-nothing κs a r e p = p .says
+
+-- in the profile that the cells hold
+pub ntske-feed-request-refuses : (κs : _) (a : _) (r : _) (e : _) → feed-request.Learnt κs a r e → (r ≡ 0 → ⊥) → (now (e .1 .1 .1 .0) ≡ now (a .1 .1 .1 .0)) × (now (e .1 .1 .1 .1 .0) ≡ now (a .1 .1 .1 .1 .0)) × ((r ≡ 65535 → ⊥) → In (r % 256) (orHeld (now (a .0)) (feedRequestNumbers (lineIn (now (a .0)) .profile))))
 ntske-feed-request-refuses κs a r e p h = fed-request-refuses p h
 
-pub ntske-close-request-refuses : (κs : _) (a : _) (r : _) (e : _) → close-request.Learnt κs a r e → (r ≡ 0 → ⊥) → (now (e .1 .1 .0) ≡ now (a .1 .1 .0)) × (now (e .1 .1 .1 .0) ≡ now (a .1 .1 .1 .0)) × ((r ≡ 65535 → ⊥) → In (r % 256) (orHeld (now (a .0)) feedRequestNumbers))
+pub ntske-close-request-refuses : (κs : _) (a : _) (r : _) (e : _) → close-request.Learnt κs a r e → (r ≡ 0 → ⊥) → (now (e .1 .1 .0) ≡ now (a .1 .1 .0)) × (now (e .1 .1 .1 .0) ≡ now (a .1 .1 .1 .0)) × ((r ≡ 65535 → ⊥) → In (r % 256) (orHeld (now (a .0)) (feedRequestNumbers (lineIn (now (a .0)) .profile))))
 ntske-close-request-refuses κs a r e p h = fed-request-refuses p h
 
-pub ntske-feed-reply-refuses : (κs : _) (a : _) (r : _) (e : _) → feed-reply.Learnt κs a r e → (r ≡ 0 → ⊥) → (now (e .1 .1 .1 .1 .1 .0) ≡ now (a .1 .1 .1 .1 .1 .0)) × (now (e .1 .1 .1 .1 .1 .1 .0) ≡ now (a .1 .1 .1 .1 .1 .1 .0)) × ((r ≡ 65535 → ⊥) → In (r % 256) (orHeld (now (a .0)) feedReplyNumbers))
+pub ntske-feed-reply-refuses : (κs : _) (a : _) (r : _) (e : _) → feed-reply.Learnt κs a r e → (r ≡ 0 → ⊥) → (now (e .1 .1 .1 .1 .1 .0) ≡ now (a .1 .1 .1 .1 .1 .0)) × (now (e .1 .1 .1 .1 .1 .1 .0) ≡ now (a .1 .1 .1 .1 .1 .1 .0)) × ((r ≡ 65535 → ⊥) → In (r % 256) (orHeld (now (a .0)) (feedReplyNumbers (lineIn (now (a .0)) .profile))))
 ntske-feed-reply-refuses κs a r e p h = fed-reply-refuses p h
 
-pub ntske-close-reply-refuses : (κs : _) (a : _) (r : _) (e : _) → close-reply.Learnt κs a r e → (r ≡ 0 → ⊥) → (now (e .1 .1 .1 .1 .0) ≡ now (a .1 .1 .1 .1 .0)) × (now (e .1 .1 .1 .1 .1 .0) ≡ now (a .1 .1 .1 .1 .1 .0)) × ((r ≡ 65535 → ⊥) → In (r % 256) (orHeld (now (a .0)) feedReplyNumbers))
+pub ntske-close-reply-refuses : (κs : _) (a : _) (r : _) (e : _) → close-reply.Learnt κs a r e → (r ≡ 0 → ⊥) → (now (e .1 .1 .1 .1 .0) ≡ now (a .1 .1 .1 .1 .0)) × (now (e .1 .1 .1 .1 .1 .0) ≡ now (a .1 .1 .1 .1 .1 .0)) × ((r ≡ 65535 → ⊥) → In (r % 256) (orHeld (now (a .0)) (feedReplyNumbers (lineIn (now (a .0)) .profile))))
 ntske-close-reply-refuses κs a r e p h = fed-reply-refuses p h
 
--- 9, and an answer that is there, change nothing: connection, buffer and table stay, and of an answer given again the answer's cells alone are put. Eight cells is what the
+-- 9, and an answer that is there, change nothing: connection, buffer and table stay, and of an answer given again the answer's cells alone are put. Nine cells is what the
 -- calls' arrays have
 
-pub ntske-feed-request-again : (κs : _) (a : _) (r : _) (e : _) → feed-request.Learnt κs a r e → length (now (a .0)) ≡ 8 → isPending (lineIn (now (a .0))) (now (a .1 .1 .0)) ≡ false
+pub ntske-feed-request-again : (κs : _) (a : _) (r : _) (e : _) → feed-request.Learnt κs a r e → length (now (a .0)) ≡ 9 → isPending (lineIn (now (a .0))) (now (a .1 .1 .0)) ≡ false
     → (now (e .0) ≡ now (a .0)) × (now (e .1 .1 .0) ≡ now (a .1 .1 .0)) × (now (e .1 .1 .1 .0) ≡ now (a .1 .1 .1 .0))
 ntske-feed-request-again κs a r e p l q = fed-again p l q
 
-pub ntske-close-request-again : (κs : _) (a : _) (r : _) (e : _) → close-request.Learnt κs a r e → length (now (a .0)) ≡ 8 → isPending (lineIn (now (a .0))) (now (a .1 .0)) ≡ false
+pub ntske-close-request-again : (κs : _) (a : _) (r : _) (e : _) → close-request.Learnt κs a r e → length (now (a .0)) ≡ 9 → isPending (lineIn (now (a .0))) (now (a .1 .0)) ≡ false
     → (now (e .0) ≡ now (a .0)) × (now (e .1 .0) ≡ now (a .1 .0)) × (now (e .1 .1 .0) ≡ now (a .1 .1 .0))
 ntske-close-request-again κs a r e p l q = fed-again p l q
 
-pub ntske-feed-reply-again : (κs : _) (a : _) (r : _) (e : _) → feed-reply.Learnt κs a r e → length (now (a .0)) ≡ 8 → isPending (lineIn (now (a .0))) (now (a .1 .1 .1 .1 .0)) ≡ false
+pub ntske-feed-reply-again : (κs : _) (a : _) (r : _) (e : _) → feed-reply.Learnt κs a r e → length (now (a .0)) ≡ 9 → isPending (lineIn (now (a .0))) (now (a .1 .1 .1 .1 .0)) ≡ false
     → (now (e .0) ≡ now (a .0)) × (now (e .1 .1 .1 .1 .0) ≡ now (a .1 .1 .1 .1 .0)) × (now (e .1 .1 .1 .1 .1 .0) ≡ now (a .1 .1 .1 .1 .1 .0))
 ntske-feed-reply-again κs a r e p l q = fed-again p l q
 
-pub ntske-close-reply-again : (κs : _) (a : _) (r : _) (e : _) → close-reply.Learnt κs a r e → length (now (a .0)) ≡ 8 → isPending (lineIn (now (a .0))) (now (a .1 .1 .1 .0)) ≡ false
+pub ntske-close-reply-again : (κs : _) (a : _) (r : _) (e : _) → close-reply.Learnt κs a r e → length (now (a .0)) ≡ 9 → isPending (lineIn (now (a .0))) (now (a .1 .1 .1 .0)) ≡ false
     → (now (e .0) ≡ now (a .0)) × (now (e .1 .1 .1 .0) ≡ now (a .1 .1 .1 .0)) × (now (e .1 .1 .1 .1 .0) ≡ now (a .1 .1 .1 .1 .0))
 ntske-close-reply-again κs a r e p l q = fed-again p l q
 

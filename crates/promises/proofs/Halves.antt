@@ -1,4 +1,4 @@
--- Messages as they are written, read by the readers of the other side: a written request, and a written reply whose protocol and algorithm were offered, is accepted, and shows what was written, and another reply is 17 with just the number that was not; the
+-- Messages as they are written, read by the readers of the other side in the usual profile: a written request, and a written reply whose protocol and algorithm were offered, is accepted, and shows what was written, and another reply is 17 with just the number that was not; the
 -- replies that agree on nothing, and an error, are refused with their own numbers. Nothing is asked of the length of a body or the size of a
 -- number: the writers refuse a body of more than 65,535 bytes, and numbers have sixteen bits.
 -- Assumes nothing.
@@ -16,14 +16,16 @@ use Rattle.wire.proofs.Bytes.{number-back}
 use Rattle.utf8.specs.Utf8.{wellFormed}
 use Rattle.utf8.proofs.Tests.{and-left, and-right}
 use Rattle.nts.specs.Refusal.{Beside, nothing, code, protocol, algorithm}
-use Rattle.layout.specs.Table.{rowOf, shapeOf, isUnknown}
+use Rattle.layout.specs.Table.{rowOf, shapeOf}
+use Rattle.layout.specs.Profile.{asksOf, isFinal, shapeIn, knows, allows}
+use Rattle.layout.specs.declared.Profile.the-variants.{Usual}
 use Rattle.layout.specs.Write.{header}
 use Rattle.layout.specs.declared.Shape.the-variants.{Skipped, Numbers, Number, Bytes, Name}
 use Rattle.walk.specs.Walk.{ends, refuses, Reader, Sighting}
-use Rattle.walk.specs.Judge.{no, yes, Terms, roomFor, Under, Judge, some, bodyIn, refused, accepted, readBy}
+use Rattle.walk.specs.Judge.{no, yes, Terms, roomFor, Under, Judge, some, bodyIn, refused, accepted, readAs}
 use Rattle.walk.specs.Message.{Each, flat, Shows}
-use Rattle.walk.specs.Table.{known, actBy}
-use Rattle.walk.proofs.Laws.{Lawful, read-refused}
+use Rattle.walk.specs.Table.{actBy}
+use Rattle.walk.proofs.Laws.{Lawful, Silent, read-refused}
 use Rattle.walk.proofs.Written.{each-all, Noted, Notes, noted-map, noted-append, noted-shows, noted-refused}
 use Rattle.plan.specs.declared.Plan.{Plan}
 use Rattle.plan.specs.declared.Port.{Port}
@@ -57,17 +59,20 @@ reply-kinds X k o p a s t =
 
 module _ (R : Reader) (D : Judge) (L : Lawful R D) (u : Under) (cs : List (List ℕ)) (t : List ℕ) (l : ℕ → List (List ℕ)) (h : Noted R cs l)
     (once : (k : ℕ) → R .once k ≡ true → length (l k) ≤ 1) (shape : R .shape 0 ≡ Skipped) (end : R .act 0 true [] ≡ ends)
-    (fits : length (messageOf cs) ≤ u .limit) where
+    (fits : length (messageOf cs) ≤ u .limit) (tail : R .final ≡ false) where
+  silent : Silent R D L u cs endRecord t
+  silent = rw tail
+
   message-shows : (x : D .Q (List ℕ)) → D .decide u (λ (b : List ℕ). b) l ≡ yes x → Shows R D (messageOf cs ++ t) u x
   message-shows x y =
       rw append-assoc
-      (noted-shows R D L u cs endRecord t l h once (last-written R shape end) (omega (arith, length-append (flat cs) endRecord)) x y)
+      (noted-shows R D L u cs endRecord t l h once (last-written R shape end) (omega (arith, length-append (flat cs) endRecord)) silent x y)
 
   message-refused : (k : ℕ) (b : Beside) → D .decide u (λ (b : List ℕ). b) l ≡ no k b
-      → readBy R D (messageOf cs ++ t) u ≡ refused (record { number = k; beside = b; place = length (flat cs) })
+      → readAs R D (messageOf cs ++ t) u ≡ refused (record { number = k; beside = b; place = length (flat cs) })
   message-refused k b y =
       rw append-assoc
-      (noted-refused R D L u cs endRecord t l h once (last-written R shape end) (omega (arith, length-append (flat cs) endRecord)) k b y)
+      (noted-refused R D L u cs endRecord t l h once (last-written R shape end) (omega (arith, length-append (flat cs) endRecord)) silent k b y)
 
 -- a number, from its two bytes
 pub number-of : (n : ℕ) → numberAt (bytesOf n) 0 ≡ n
@@ -105,25 +110,25 @@ some-kept true = refl
 some-kept false = refl
 
 module _ (x : Plan) (s : List ℕ) (utf8 : wellFormed s ≡ true) (l : List (List ℕ)) where
-  server-noted : (y : NameLength) → Noted reply.reader (serverRecord y s) (λ k. cond (eqb 6 k) (bodySent (serverSent y s)) [])
-  unfolding shapeOf actBy known isUnknown rowOf reply.act
-  server-noted name.None = noted-map reply.reader 6 (recordWith 6) [] tt
-  server-noted (name.Bytes n) = one-noted 6 s (omega arith) reply.reader Name refl utf8 refl
+  server-noted : (y : NameLength) → Noted (reply.reader Usual) (serverRecord y s) (λ k. cond (eqb 6 k) (bodySent (serverSent y s)) [])
+  unfolding shapeOf actBy asksOf isFinal shapeIn knows allows rowOf reply.act
+  server-noted name.None = noted-map (reply.reader Usual) 6 (recordWith 6) [] tt
+  server-noted (name.Bytes n) = one-noted 6 s (omega arith) (reply.reader Usual) Name refl utf8 refl
 
-  port-noted : (y : Port) → Noted reply.reader (portRecord y) (λ k. cond (eqb 7 k) (bodySent (portSent y)) [])
-  unfolding shapeOf bytesOf actBy known isUnknown rowOf reply.act
-  port-noted port.None = noted-map reply.reader 7 (recordWith 7) [] tt
-  port-noted (port.Number n) = one-noted 7 (bytesOf n) (omega arith) reply.reader Number refl refl refl
+  port-noted : (y : Port) → Noted (reply.reader Usual) (portRecord y) (λ k. cond (eqb 7 k) (bodySent (portSent y)) [])
+  unfolding shapeOf bytesOf actBy asksOf isFinal shapeIn knows allows rowOf reply.act
+  port-noted port.None = noted-map (reply.reader Usual) 7 (recordWith 7) [] tt
+  port-noted (port.Number n) = one-noted 7 (bytesOf n) (omega arith) (reply.reader Usual) Number refl refl refl
 
-  kept-noted : (y : Bool) → Noted reply.reader (ifAsked y (recordWith 8 [])) (λ k. cond (eqb 8 k) (keptBodies y) [])
-  unfolding shapeOf actBy known isUnknown rowOf reply.act
-  kept-noted true = one-noted 8 [] (omega arith) reply.reader Skipped refl tt refl
-  kept-noted false = noted-map reply.reader 8 (recordWith 8) [] tt
+  kept-noted : (y : Bool) → Noted (reply.reader Usual) (ifAsked y (recordWith 8 [])) (λ k. cond (eqb 8 k) (keptBodies y) [])
+  unfolding shapeOf actBy asksOf isFinal shapeIn knows allows rowOf reply.act
+  kept-noted true = one-noted 8 [] (omega arith) (reply.reader Usual) Skipped refl tt refl
+  kept-noted false = noted-map (reply.reader Usual) 8 (recordWith 8) [] tt
 
-  cookies-noted : Noted reply.reader (map (recordWith 5) l) (λ k. cond (eqb 5 k) l [])
-  unfolding shapeOf actBy known isUnknown rowOf reply.act
+  cookies-noted : Noted (reply.reader Usual) (map (recordWith 5) l) (λ k. cond (eqb 5 k) l [])
+  unfolding shapeOf actBy asksOf isFinal shapeIn knows allows rowOf reply.act
   cookies-noted =
-      noted-map reply.reader 5 (recordWith 5) l (each-all (λ b. notes-written 5 b (omega arith) reply.reader Bytes refl tt refl) l)
+      noted-map (reply.reader Usual) 5 (recordWith 5) l (each-all (λ b. notes-written 5 b (omega arith) (reply.reader Usual) Bytes refl tt refl) l)
 
   abbrev replyBodies : ℕ → List (List ℕ)
   replyBodies k =
@@ -134,13 +139,13 @@ module _ (x : Plan) (s : List ℕ) (utf8 : wellFormed s ≡ true) (l : List (Lis
       ++ (cond (eqb 8 k) (keptBodies (x .«keep_alive»)) []
       ++ cond (eqb 5 k) l []))))
 
-  reply-noted : Noted reply.reader (replyRecords x s l) replyBodies
-  unfolding shapeOf bytesOf actBy known isUnknown rowOf reply.act
+  reply-noted : Noted (reply.reader Usual) (replyRecords x s l) replyBodies
+  unfolding shapeOf bytesOf actBy asksOf isFinal shapeIn knows allows rowOf reply.act
   reply-noted =
-      noted-append reply.reader (one-noted 1 (bytesOf (x .protocol .0)) (omega arith) reply.reader Numbers refl refl refl)
-      (noted-append reply.reader (one-noted 4 (bytesOf (x .algorithm .0)) (omega arith) reply.reader Numbers refl refl refl)
-      (noted-append reply.reader (server-noted (x .name))
-      (noted-append reply.reader (port-noted (x .port)) (noted-append reply.reader (kept-noted (x .«keep_alive»)) cookies-noted))))
+      noted-append (reply.reader Usual) (one-noted 1 (bytesOf (x .protocol .0)) (omega arith) (reply.reader Usual) Numbers refl refl refl)
+      (noted-append (reply.reader Usual) (one-noted 4 (bytesOf (x .algorithm .0)) (omega arith) (reply.reader Usual) Numbers refl refl refl)
+      (noted-append (reply.reader Usual) (server-noted (x .name))
+      (noted-append (reply.reader Usual) (port-noted (x .port)) (noted-append (reply.reader Usual) (kept-noted (x .«keep_alive»)) cookies-noted))))
 
   reply-once : (k : ℕ) → reply.once k ≡ true → length (replyBodies k) ≤ 1
   reply-once k o =
@@ -162,12 +167,12 @@ module _ (x : Plan) (s : List ℕ) (utf8 : wellFormed s ≡ true) (l : List (Lis
   pub reply-read : (t : List ℕ) (n : ℕ) (y : Terms) → 1 ≤ length l → length l ≤ y .room → y .protocols (x .protocol .0) ≡ true → y .algorithms (x .algorithm .0) ≡ true
       → length (messageOf (replyRecords x s l)) ≤ n
       → (q : reply.Form Sighting)
-      × (replyOf (messageOf (replyRecords x s l) ++ t) n y ≡ accepted q)
+      × (replyOf Usual (messageOf (replyRecords x s l) ++ t) n y ≡ accepted q)
       × (reply.mapForm (bodyIn (messageOf (replyRecords x s l) ++ t)) q
       ≡ reply.reply (bytesOf (x .protocol .0)) (bytesOf (x .algorithm .0)) (serverSent (x .name) s) (portSent (x .port)) (x .«keep_alive») l)
-  unfolding replyOf shapeOf actBy known isUnknown rowOf reply.act
+  unfolding replyOf shapeOf actBy asksOf isFinal shapeIn knows allows rowOf reply.act
   reply-read t n y h g op oa f =
-      message-shows reply.reader reply.judging reply-lawful (record { limit = n; terms = y }) (replyRecords x s l) t replyBodies reply-noted reply-once refl refl f _
+      message-shows (reply.reader Usual) reply.judging (reply-lawful Usual) (record { profile = Usual; limit = n; terms = y }) (replyRecords x s l) t replyBodies reply-noted reply-once refl refl f refl _
       (reply-decided y h g op oa)
 
   -- where the protocol was not offered, or it was and the algorithm was not, it is refusal 17 with just that number, at the end record's place
@@ -190,21 +195,21 @@ module _ (x : Plan) (s : List ℕ) (utf8 : wellFormed s ≡ true) (l : List (Lis
       rw (p, a) (ap (λ (n : ℕ). no 17 (algorithm n)) e)
 
   pub reply-unoffered : (t : List ℕ) (n : ℕ) (y : Terms) (b : Beside) → unoffered y b → length (messageOf (replyRecords x s l)) ≤ n
-      → replyOf (messageOf (replyRecords x s l) ++ t) n y ≡ refused (record { number = 17; beside = b; place = length (flat (replyRecords x s l)) })
-  unfolding replyOf unoffered shapeOf actBy known isUnknown rowOf reply.act
+      → replyOf Usual (messageOf (replyRecords x s l) ++ t) n y ≡ refused (record { number = 17; beside = b; place = length (flat (replyRecords x s l)) })
+  unfolding replyOf unoffered shapeOf actBy asksOf isFinal shapeIn knows allows rowOf reply.act
   reply-unoffered t n y b e f =
-      message-refused reply.reader reply.judging reply-lawful (record { limit = n; terms = y }) (replyRecords x s l) t replyBodies reply-noted reply-once refl refl f 17 b e
+      message-refused (reply.reader Usual) reply.judging (reply-lawful Usual) (record { profile = Usual; limit = n; terms = y }) (replyRecords x s l) t replyBodies reply-noted reply-once refl refl f refl 17 b e
 
 -- ---- a request
 
 cells-even : (l : List ℕ) → length (cellBytes l) % 2 ≡ 0
 cells-even l = omega (arith, length-cells l)
 
-each-name : (l : List (List ℕ)) → allUtf8 l ≡ true → Each (λ b. Notes request.reader 13 b (recordWith 13 b)) l
-unfolding shapeOf actBy known isUnknown rowOf request.act
+each-name : (l : List (List ℕ)) → allUtf8 l ≡ true → Each (λ b. Notes (request.reader Usual) 13 b (recordWith 13 b)) l
+unfolding shapeOf actBy asksOf isFinal shapeIn knows allows rowOf request.act
 each-name [] h = tt
 each-name (b ∷ l) h = (
-  notes-written 13 b (omega arith) request.reader Name refl (and-left (wellFormed b) (allUtf8 l) h) refl,
+  notes-written 13 b (omega arith) (request.reader Usual) Name refl (and-left (wellFormed b) (allUtf8 l) h) refl,
   each-name l (and-right (wellFormed b) (allUtf8 l) h),
 )
 
@@ -213,13 +218,13 @@ module _ (protocols algorithms : List ℕ) (names : List (List ℕ)) (utf8 : all
   requestBodies k =
       cond (eqb 1 k) (cellBytes protocols ∷ []) [] ++ (cond (eqb 4 k) (cellBytes algorithms ∷ []) [] ++ cond (eqb 13 k) names [])
 
-  request-noted : Noted request.reader (requestRecords protocols algorithms names) requestBodies
-  unfolding shapeOf actBy known isUnknown rowOf request.act
+  request-noted : Noted (request.reader Usual) (requestRecords protocols algorithms names) requestBodies
+  unfolding shapeOf actBy asksOf isFinal shapeIn knows allows rowOf request.act
   request-noted =
-      noted-append request.reader (one-noted 1 (cellBytes protocols) (omega arith) request.reader Numbers refl (cells-even protocols) refl)
-      (noted-append request.reader
-      (one-noted 4 (cellBytes algorithms) (omega arith) request.reader Numbers refl (cells-even algorithms) refl)
-      (noted-map request.reader 13 (recordWith 13) names (each-name names utf8)))
+      noted-append (request.reader Usual) (one-noted 1 (cellBytes protocols) (omega arith) (request.reader Usual) Numbers refl (cells-even protocols) refl)
+      (noted-append (request.reader Usual)
+      (one-noted 4 (cellBytes algorithms) (omega arith) (request.reader Usual) Numbers refl (cells-even algorithms) refl)
+      (noted-map (request.reader Usual) 13 (recordWith 13) names (each-name names utf8)))
 
   request-once : (k : ℕ) → request.once k ≡ true → length (requestBodies k) ≤ 1
   unfolding request.once
@@ -241,50 +246,50 @@ module _ (protocols algorithms : List ℕ) (names : List (List ℕ)) (utf8 : all
   -- and the denied names, each in their order
   pub request-read : (t : List ℕ) (n room : ℕ) → length names ≤ room → length (messageOf (requestRecords protocols algorithms names)) ≤ n
       → (q : request.Form Sighting)
-      × (request.request (messageOf (requestRecords protocols algorithms names) ++ t) n room ≡ accepted q)
+      × (request.request Usual (messageOf (requestRecords protocols algorithms names) ++ t) n room ≡ accepted q)
       × (request.mapForm (bodyIn (messageOf (requestRecords protocols algorithms names) ++ t)) q
       ≡ request.keyExchange (cellBytes protocols) (cellBytes algorithms) names)
-  unfolding request.request shapeOf actBy known isUnknown rowOf
+  unfolding request.request shapeOf actBy asksOf isFinal shapeIn knows allows rowOf
   request-read t n room g f =
-      message-shows request.reader request.judging request-lawful (record { limit = n; terms = roomFor room }) (requestRecords protocols algorithms names) t requestBodies
-      request-noted request-once refl refl f _ (request-decided room g)
+      message-shows (request.reader Usual) request.judging (request-lawful Usual) (record { profile = Usual; limit = n; terms = roomFor room }) (requestRecords protocols algorithms names) t requestBodies
+      request-noted request-once refl refl f refl _ (request-decided room g)
 
 -- ---- the other replies
 
 module _ (t : List ℕ) (n : ℕ) (y : Terms) where
   abbrev asked : Under
-  asked = record { limit = n; terms = y }
+  asked = record { profile = Usual; limit = n; terms = y }
 
   -- the reply that no protocol is agreed on is refusal 13, at its end record's place
   pub no-protocol-read : length (messageOf noProtocolRecords) ≤ n
-      → replyOf (messageOf noProtocolRecords ++ t) n y ≡ refused (record { number = 13; beside = nothing; place = 4 })
-  unfolding replyOf recordOf header bytesOf shapeOf actBy known isUnknown rowOf reply.act reply.decide
+      → replyOf Usual (messageOf noProtocolRecords ++ t) n y ≡ refused (record { number = 13; beside = nothing; place = 4 })
+  unfolding replyOf recordOf header bytesOf shapeOf actBy asksOf isFinal shapeIn knows allows rowOf reply.act reply.decide
   no-protocol-read f =
       let l : ℕ → List (List ℕ) = λ k. cond (eqb 1 k) ([] ∷ []) [] in
-      message-refused reply.reader reply.judging reply-lawful asked noProtocolRecords t l
-      (one-noted 1 [] (omega arith) reply.reader Numbers refl refl refl)
+      message-refused (reply.reader Usual) reply.judging (reply-lawful Usual) asked noProtocolRecords t l
+      (one-noted 1 [] (omega arith) (reply.reader Usual) Numbers refl refl refl)
       (λ k o. reply-kinds (λ j. length (l j) ≤ 1) k o (omega arith) (omega arith) (omega arith) (omega arith))
-      refl refl f 13 nothing refl
+      refl refl f refl 13 nothing refl
 
   -- the reply that no algorithm is agreed on, with whatever protocol, is refusal 14, at its end record's place
   pub no-algorithm-read : (p : ℕ) → length (messageOf (noAlgorithmRecords p)) ≤ n
-      → replyOf (messageOf (noAlgorithmRecords p) ++ t) n y ≡ refused (record { number = 14; beside = nothing; place = 10 })
-  unfolding replyOf recordOf header bytesOf shapeOf actBy known isUnknown rowOf reply.act reply.decide
+      → replyOf Usual (messageOf (noAlgorithmRecords p) ++ t) n y ≡ refused (record { number = 14; beside = nothing; place = 10 })
+  unfolding replyOf recordOf header bytesOf shapeOf actBy asksOf isFinal shapeIn knows allows rowOf reply.act reply.decide
   no-algorithm-read p f =
       let l : ℕ → List (List ℕ) = λ k. cond (eqb 1 k) (bytesOf p ∷ []) [] ++ cond (eqb 4 k) ([] ∷ []) [] in
-      message-refused reply.reader reply.judging reply-lawful asked (noAlgorithmRecords p) t l
-      (noted-append reply.reader (one-noted 1 (bytesOf p) (omega arith) reply.reader Numbers refl refl refl)
-      (one-noted 4 [] (omega arith) reply.reader Numbers refl refl refl))
+      message-refused (reply.reader Usual) reply.judging (reply-lawful Usual) asked (noAlgorithmRecords p) t l
+      (noted-append (reply.reader Usual) (one-noted 1 (bytesOf p) (omega arith) (reply.reader Usual) Numbers refl refl refl)
+      (one-noted 4 [] (omega arith) (reply.reader Usual) Numbers refl refl refl))
       (λ k o. reply-kinds (λ j. length (l j) ≤ 1) k o (omega arith) (omega arith) (omega arith) (omega arith))
-      refl refl f 14 nothing refl
+      refl refl f refl 14 nothing refl
 
   -- an error reply is refusal 11 with its code, at the error record, which is the first
   pub error-read : (c : ℕ) → length (messageOf (errorRecords c)) ≤ n
-      → replyOf (messageOf (errorRecords c) ++ t) n y ≡ refused (record { number = 11; beside = code c; place = 0 })
-  unfolding replyOf shapeOf bytesOf actBy known isUnknown rowOf reply.act
+      → replyOf Usual (messageOf (errorRecords c) ++ t) n y ≡ refused (record { number = 11; beside = code c; place = 0 })
+  unfolding replyOf shapeOf bytesOf actBy asksOf isFinal shapeIn knows allows rowOf reply.act
   error-read c f =
       let u = recordWith 2 (bytesOf c) in
-      let a = act-written 2 (bytesOf c) (omega arith) reply.reader ∙ ap (λ (k : ℕ). refuses 11 (code k)) (number-back c []) in
+      let a = act-written 2 (bytesOf c) (omega arith) (reply.reader Usual) ∙ ap (λ (k : ℕ). refuses 11 (code k)) (number-back c []) in
       rw (append-nil, append-assoc)
-      (read-refused reply.reader reply.judging asked [] u (endRecord ++ t) 11 (code c) tt tt (whole-written 2 (bytesOf c))
-      (faultless-written 2 (bytesOf c) (omega arith) reply.reader Number refl refl) a (omega (arith, length-append (u ++ []) endRecord, length-append u [])))
+      (read-refused (reply.reader Usual) reply.judging asked [] u (endRecord ++ t) 11 (code c) tt tt (whole-written 2 (bytesOf c))
+      (faultless-written 2 (bytesOf c) (omega arith) (reply.reader Usual) Number refl refl) a (omega (arith, length-append (u ++ []) endRecord, length-append u [])))

@@ -1,4 +1,4 @@
--- "So the two halves of this library can't disagree": a call of a writer of messages that wrote, and a call of a reader on the bytes that it
+-- "So the two halves of this library can't disagree": a call of a writer of messages that wrote, and a call of a reader in the usual profile on the bytes that it
 -- wrote: whatever follows them, and under every limit that holds them, the reader accepts a written request, and a written reply whose protocol and algorithm were offered, and hands out what was
 -- written, and refuses a reply that names what was not offered with 17 and just that number, and the other replies with their own numbers. The theorems over the definitions: proofs/Halves.antt.
 -- Assumes nothing.
@@ -15,6 +15,7 @@ use Rattle.nts.specs.Refusal.{Beside, nothing, code, protocol, algorithm, Refus
 use Rattle.nts.specs.declared.NextProtocol.{NextProtocol}
 use Rattle.nts.specs.declared.ErrorCode.{ErrorCode}
 use Rattle.layout.specs.Write.{header, bytes, fitted, Wrote}
+use Rattle.layout.specs.declared.Profile.the-variants.{Usual}
 use Rattle.layout.specs.declared.ByteCount.{ByteCount}
 use Rattle.layout.specs.declared.ByteCount.the-variants.{Bytes}
 use Rattle.walk.specs.Walk.{Sighting}
@@ -101,22 +102,28 @@ pub record WroteError (c : ErrorCode) (out : List ℕ) (r : ByteCount) (after : 
   pub of-out : now (a .1 .0) ≡ out
   pub of-exit : now (e .1 .0) ≡ after
 
--- ---- of any reader: a call on the message m that stands at the front of an output, and any tail
+-- ---- of any reader: a call in the usual profile on the message m that stands at the front of an output, and any tail
+
+abbrev usually : Under → Under
+usually u = record { profile = Usual; limit = u .limit; terms = u .terms }
+
+in-usual : (u : Under) → u .profile ≡ Usual → u ≡ usually u
+in-usual u p = λ i. record { profile = p i; limit = u .limit; terms = u .terms }
 
 module _ {Q : Type 0 → Type 0} {S : Type 0} {reading : List ℕ → Under → Answer Q} {shows : List ℕ → Q Sighting → Q (List ℕ)} {R : Reader S} {inHand : Q (List ℕ) → S}
-    (F : Faithful reading shows R inHand) (m after : List ℕ) (k : ℕ) (s : Stands m k after) (t : List ℕ) (c : R .Call) (asked : R .asked c ≡ take k after ++ t) where
+    (F : Faithful reading shows R inHand) (m after : List ℕ) (k : ℕ) (s : Stands m k after) (t : List ℕ) (c : R .Call) (asked : R .asked c ≡ take k after ++ t) (p : R .under c .profile ≡ Usual) where
   same : R .asked c ≡ m ++ t
   same = asked ∙ ap (λ (l : List ℕ). l ++ t) (s .front)
 
   -- the definition accepts and shows b: so does the call, and b is in hand
-  shown-back : (b : Q (List ℕ)) → Showing reading shows (m ++ t) (R .under c) b → R .Accepts c (inHand b)
+  shown-back : (b : Q (List ℕ)) → Showing reading shows (m ++ t) (usually (R .under c)) b → R .Accepts c (inHand b)
   shown-back b h =
-      let w = ap (λ (l : List ℕ). reading l (R .under c)) same ∙ h .1 in
+      let w = ap (λ (l : List ℕ). reading l (R .under c)) same ∙ ap (reading (m ++ t)) (in-usual (R .under c) p) ∙ h .1 in
       subst (R .Accepts c) (ap inHand (ap (λ (l : List ℕ). shows l (h .0)) same ∙ h .2)) (F .accepts c (h .0) w)
 
   -- the definition refuses: so does the call, and what was lent stays as it was
-  refused-back : (y : Refused) → reading (m ++ t) (R .under c) ≡ refused y → R .Refuses c y
-  refused-back y w = F .refuses c y (ap (λ (l : List ℕ). reading l (R .under c)) same ∙ w)
+  refused-back : (y : Refused) → reading (m ++ t) (usually (R .under c)) ≡ refused y → R .Refuses c y
+  refused-back y w = F .refuses c y (ap (λ (l : List ℕ). reading l (R .under c)) same ∙ ap (reading (m ++ t)) (in-usual (R .under c) p) ∙ w)
 
 -- ---- a reply
 
@@ -154,7 +161,7 @@ module _ (x : Plan) (tray server out : List ℕ) (k : ℕ) (after : List ℕ) (w
   -- protocol and algorithm, accepts, and hands out the plan's
   -- protocol and algorithm, the server's name and the port if they are planned, keep-alive as planned, and the tray's cookies in their order
   pub reply-read-back : (k ≤ length after)
-      × ((t : List ℕ) (c : ParseReply) → reply-parse .asked c ≡ take k after ++ t → k ≤ reply-parse .under c .limit → length (cookiesOf x tray) ≤ reply-parse .under c .terms .room
+      × ((t : List ℕ) (c : ParseReply) → reply-parse .asked c ≡ take k after ++ t → reply-parse .under c .profile ≡ Usual → k ≤ reply-parse .under c .limit → length (cookiesOf x tray) ≤ reply-parse .under c .terms .room
       → reply-parse .under c .terms .protocols (x .protocol .0) ≡ true → reply-parse .under c .terms .algorithms (x .algorithm .0) ≡ true
       → reply-parse .Accepts c
       (reply-hand.reply (x .protocol .0) (x .algorithm .0) (serverSent (x .name) server) (portNumber (x .port)) (x .«keep_alive») (length (cookiesOf x tray))
@@ -169,15 +176,15 @@ module _ (x : Plan) (tray server out : List ℕ) (k : ℕ) (after : List ℕ) (w
       let some : 1 ≤ length l = rw e (j .some) in
       let s = v .stands (length-reply x server l (j .named) ∙ ap (replyLength x) e ∙ sym (j .long)) in (
         s .inside,
-        λ t c a h g op oa.
+        λ t c a p h g op oa.
             let d = reply-read x server (j .utf8) l t (reply-parse .under c .limit) (reply-parse .under c .terms) some g op oa (omega (arith, s .long)) in
-            subst (reply-parse .Accepts c) (reply-in-hand x server l) (shown-back reply-faithful m after k s t c a _ d),
+            subst (reply-parse .Accepts c) (reply-in-hand x server l) (shown-back reply-faithful m after k s t c a p _ d),
       )
 
   -- where the lists do not hold the plan's protocol, or hold it and not its algorithm, the same call refuses with 17 and just that number, at the place of the end record,
   -- which is the last four bytes, and leaves its table as it was
   pub reply-refused-back : (k ≤ length after)
-      × ((t : List ℕ) (c : ParseReply) → reply-parse .asked c ≡ take k after ++ t → k ≤ reply-parse .under c .limit
+      × ((t : List ℕ) (c : ParseReply) → reply-parse .asked c ≡ take k after ++ t → reply-parse .under c .profile ≡ Usual → k ≤ reply-parse .under c .limit
       → (reply-parse .under c .terms .protocols (x .protocol .0) ≡ false
       → reply-parse .Refuses c (record { number = 17; beside = protocol (x .protocol .0); place = k - 4 }))
       × (reply-parse .under c .terms .protocols (x .protocol .0) ≡ true → reply-parse .under c .terms .algorithms (x .algorithm .0) ≡ false
@@ -191,15 +198,15 @@ module _ (x : Plan) (tray server out : List ℕ) (k : ℕ) (after : List ℕ) (w
       let e : l ≡ j .bodies = ap bodiesOf (j .are) in
       let s = v .stands (length-reply x server l (j .named) ∙ ap (replyLength x) e ∙ sym (j .long)) in
       let place : length (flat (replyRecords x server l)) ≡ k - 4 = at-end (flat (replyRecords x server l)) k (s .long) in
-      let refuses : (t : List ℕ) (c : ParseReply) → reply-parse .asked c ≡ take k after ++ t → k ≤ reply-parse .under c .limit → (b : Beside)
+      let refuses : (t : List ℕ) (c : ParseReply) → reply-parse .asked c ≡ take k after ++ t → reply-parse .under c .profile ≡ Usual → k ≤ reply-parse .under c .limit → (b : Beside)
       → unoffered x server (j .utf8) l (reply-parse .under c .terms) b → reply-parse .Refuses c (record { number = 17; beside = b; place = k - 4 }) =
-      λ t c a h b u. refused-back reply-faithful m after k s t c a _
+      λ t c a p h b u. refused-back reply-faithful m after k s t c a p _
       (reply-unoffered x server (j .utf8) l t (reply-parse .under c .limit) (reply-parse .under c .terms) b u (omega (arith, s .long))
       ∙ ap (λ (i : ℕ). refused (record { number = 17; beside = b; place = i })) place) in (
         s .inside,
-        λ t c a h. (
-          λ op. refuses t c a h _ (protocol-unoffered x server (j .utf8) l (reply-parse .under c .terms) op),
-          λ op oa. refuses t c a h _ (algorithm-unoffered x server (j .utf8) l (reply-parse .under c .terms) op oa),
+        λ t c a p h. (
+          λ op. refuses t c a p h _ (protocol-unoffered x server (j .utf8) l (reply-parse .under c .terms) op),
+          λ op oa. refuses t c a p h _ (algorithm-unoffered x server (j .utf8) l (reply-parse .under c .terms) op oa),
         ),
       )
 
@@ -217,7 +224,7 @@ module _ (protocols algorithms tray : List ℕ) (used : ℕ) (out : List ℕ) (k
   -- follows them, under every limit that is k or more, with a table that has room for the names, accepts a key-exchange request, and hands out
   -- the protocols, the algorithms and the tray's names, each in their order
   pub request-read-back : (k ≤ length after)
-      × ((t : List ℕ) (c : ParseRequest) → request-parse .asked c ≡ take k after ++ t → k ≤ request-parse .under c .limit → length (namesOf used tray) ≤ request-parse .under c .terms .room
+      × ((t : List ℕ) (c : ParseRequest) → request-parse .asked c ≡ take k after ++ t → request-parse .under c .profile ≡ Usual → k ≤ request-parse .under c .limit → length (namesOf used tray) ≤ request-parse .under c .terms .room
       → request-parse .Accepts c (request-hand.keyExchange (cellBytes protocols) (cellBytes algorithms) (length (namesOf used tray)) (namesOf used tray)))
   unfolding request.request
   request-read-back =
@@ -230,9 +237,9 @@ module _ (protocols algorithms tray : List ℕ) (used : ℕ) (out : List ℕ) (k
       let utf8 : allUtf8 l ≡ true = ap allUtf8 e ∙ j .utf8 in
       let s = v .stands (length-request protocols algorithms l ∙ ap (requestLength protocols algorithms) e ∙ sym (j .long)) in (
         s .inside,
-        λ t c a h g.
+        λ t c a p h g.
             let d = request-read protocols algorithms l utf8 t (request-parse .under c .limit) (request-parse .under c .terms .room) g (omega (arith, s .long)) in
-            shown-back request-faithful m after k s t c a _ d,
+            shown-back request-faithful m after k s t c a p _ d,
       )
 
 -- ---- the other replies
@@ -245,17 +252,17 @@ same-count i k e = cc
 abbrev pub RefusedBack : ℕ → List ℕ → Refused → Type 1
 RefusedBack k after y =
     (k ≤ length after)
-    × ((t : List ℕ) (c : ParseReply) → reply-parse .asked c ≡ take k after ++ t → k ≤ reply-parse .under c .limit → reply-parse .Refuses c y)
+    × ((t : List ℕ) (c : ParseReply) → reply-parse .asked c ≡ take k after ++ t → reply-parse .under c .profile ≡ Usual → k ≤ reply-parse .under c .limit → reply-parse .Refuses c y)
 
 -- a writer wrote a message of i bytes, which the definition refuses, whatever follows it, under every limit that holds it, with any room and whatever was offered
 declined-back : (i : ℕ) (m out after : List ℕ) (k : ℕ) (y : Refused) → Wrote (fitted (length out) (bytes i)) m out (Bytes k) after → length m ≡ i
-    → ((t : List ℕ) (n : ℕ) (x : Terms) → length m ≤ n → replyOf (m ++ t) n x ≡ refused y) → RefusedBack k after y
+    → ((t : List ℕ) (n : ℕ) (x : Terms) → length m ≤ n → replyOf Usual (m ++ t) n x ≡ refused y) → RefusedBack k after y
 declined-back i m out after k y w l law =
     let v = wrote-written (bytes i) m out after k w in
     let e : i ≡ k = same-count i k (v .judged) in
     let s = v .stands (l ∙ e) in (
       s .inside,
-      λ t c a h. refused-back reply-faithful m after k s t c a y (law t (reply-parse .under c .limit) (reply-parse .under c .terms) (omega (arith, s .long))),
+      λ t c a p h. refused-back reply-faithful m after k s t c a p y (law t (reply-parse .under c .limit) (reply-parse .under c .terms) (omega (arith, s .long))),
     )
 
 -- what a call of declining::write_no_protocol wrote, the reply reader's call refuses with 13 and nothing beside it, at its end record's place

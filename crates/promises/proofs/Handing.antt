@@ -12,6 +12,7 @@ use Rattle.wire.specs.Over.{over}
 use Rattle.wire.proofs.Over.{over-none}
 use Rattle.nts.specs.Refusal.{Refused, toldRefusal}
 use Rattle.nts.specs.declared.Refusal.{Refusal}
+use Rattle.layout.specs.declared.Profile.{Profile}
 use Rattle.walk.specs.Walk.{Sighting}
 use Rattle.walk.specs.Judge.{bodyIn, partOf, refused, accepted}
 use Rattle.walk.specs.Judge as judge
@@ -90,33 +91,33 @@ form-not m (keyExchange p a d) y h = cc
 form-not m (fixedKey u x a p k) y h = cc
 form-not m (support u p a k) y h = cc
 
--- a call on m under the limit n with a table, as its contract tells it
-module _ (m : List ℕ) (n : ℕ) (table : List ℕ) (r : Answer) (table′ : List ℕ) (c : Reads m n table r table′) where
+-- a call on m in a profile, under the limit n and with a table, as its contract tells it
+module _ (P : Profile) (m : List ℕ) (n : ℕ) (table : List ℕ) (r : Answer) (table′ : List ℕ) (c : Reads P m n table r table′) where
   -- it answered a request: then the definition accepts ..
-  pub answered : (x : Request) → r ≡ Accepted x → (q : Form Sighting) × (request m n (roomOf table) ≡ accepted q)
-  answered x e = go (request m n (roomOf table)) refl (ap toldAnswer (sym e) ∙ c .says)
+  pub answered : (x : Request) → r ≡ Accepted x → (q : Form Sighting) × (request P m n (roomOf table) ≡ accepted q)
+  answered x e = go (request P m n (roomOf table)) refl (ap toldAnswer (sym e) ∙ c .says)
     where
-      go : (o : judge.Answer Form) → request m n (roomOf table) ≡ o → toldRequest x ≡ toldBy m o
-          → (q : Form Sighting) × (request m n (roomOf table) ≡ accepted q)
+      go : (o : judge.Answer Form) → request P m n (roomOf table) ≡ o → toldRequest x ≡ toldBy m o
+          → (q : Form Sighting) × (request P m n (roomOf table) ≡ accepted q)
       go (refused y) w h = let z : _≡_ {A = ℕ} 0 1 = told-not x y h in absurd (omega arith)
       go (accepted q) w h = (q, w)
 
   -- .. and where the definition accepts, it answered a request
-  pub answers : (q : Form Sighting) → request m n (roomOf table) ≡ accepted q → (x : Request) × (r ≡ Accepted x)
+  pub answers : (q : Form Sighting) → request P m n (roomOf table) ≡ accepted q → (x : Request) × (r ≡ Accepted x)
   answers q w = go r refl (c .says ∙ ap (toldBy m) w)
     where
       go : (o : Answer) → r ≡ o → toldAnswer o ≡ toldForm m q → (x : Request) × (r ≡ Accepted x)
       go (Accepted x) e h = (x, e)
       go (answer.Refused y) e h = let z : _≡_ {A = ℕ} 0 1 = form-not m q (toldRefusal y) (sym h) in absurd (omega arith)
 
-  pub in-hand : (x : Request) (q : Form Sighting) → r ≡ Accepted x → request m n (roomOf table) ≡ accepted q
+  pub in-hand : (x : Request) (q : Form Sighting) → r ≡ Accepted x → request P m n (roomOf table) ≡ accepted q
       → handedOut m table′ x ≡ inHand (mapForm (bodyIn m) q)
   in-hand x q e w =
-      shown m table table′ x q (accepted-inside m n (roomOf table) q w) (ap toldAnswer (sym e) ∙ c .says ∙ ap (toldBy m) w)
+      shown m table table′ x q (accepted-inside P m n (roomOf table) q w) (ap toldAnswer (sym e) ∙ c .says ∙ ap (toldBy m) w)
       (c .left ∙ ap (λ (o : judge.Answer Form). tableAfter o table) w)
 
   -- where the definition refuses, so does the call, and no cell of the table changes
-  pub refuses : (y : Refused) → request m n (roomOf table) ≡ refused y
+  pub refuses : (y : Refused) → request P m n (roomOf table) ≡ refused y
       → (x : Refusal) × (r ≡ answer.Refused x) × (toldRefusal x ≡ y) × (table′ ≡ table)
   unfolding tableAfter
   refuses y w = go r refl (c .says ∙ ap (toldBy m) w)
@@ -130,19 +131,19 @@ module _ (m : List ℕ) (n : ℕ) (table : List ℕ) (r : Answer) (table′ : Li
 
 -- ---- so calls that each meet the reader's contract answer as the definition does
 
-pub reads-faithful : (C : Type 1) (m : C → List ℕ) (n : C → ℕ) (table : C → List ℕ) (r : C → Answer) (table′ : C → List ℕ) → ((c : C) → Reads (m c) (n c) (table c) (r c) (table′ c))
-    → Faithful reading shows (answering C m n table r table′) inHand
+pub reads-faithful : (C : Type 1) (P : C → Profile) (m : C → List ℕ) (n : C → ℕ) (table : C → List ℕ) (r : C → Answer) (table′ : C → List ℕ) → ((c : C) → Reads (P c) (m c) (n c) (table c) (r c) (table′ c))
+    → Faithful reading shows (answering C P m n table r table′) inHand
 unfolding request
-reads-faithful C m n table r table′ met = record {
+reads-faithful C P m n table r table′ met = record {
   accepted-by = λ c s h.
-      let q = answered _ _ _ _ _ (met c) (h .0) (h .1) in
-      (q .0, q .1, sym (in-hand _ _ _ _ _ (met c) (h .0) (q .0) (h .1) (q .1)) ∙ h .2);
+      let q = answered _ _ _ _ _ _ (met c) (h .0) (h .1) in
+      (q .0, q .1, sym (in-hand _ _ _ _ _ _ (met c) (h .0) (q .0) (h .1) (q .1)) ∙ h .2);
   accepts = λ c q w.
-      let x = answers _ _ _ _ _ (met c) q w in
-      (x .0, x .1, in-hand _ _ _ _ _ (met c) (x .0) q (x .1) w);
-  refuses = λ c y w. refuses _ _ _ _ _ (met c) y w;
+      let x = answers _ _ _ _ _ _ (met c) q w in
+      (x .0, x .1, in-hand _ _ _ _ _ _ (met c) (x .0) q (x .1) w);
+  refuses = λ c y w. refuses _ _ _ _ _ _ (met c) y w;
 }
 
 pub request-faithful : Faithful reading shows request-parse inHand
 unfolding request
-request-faithful = reads-faithful ParseRequest _ _ _ _ _ (λ c. c .met)
+request-faithful = reads-faithful ParseRequest _ _ _ _ _ _ (λ c. c .met)

@@ -11,6 +11,7 @@ use Rattle.wire.proofs.Over.{over-none}
 use Rattle.nts.specs.Refusal.{Refused, toldRefusal}
 use Rattle.nts.specs.declared.Refusal.{Refusal}
 use Rattle.layout.specs.declared.Part.{Part}
+use Rattle.layout.specs.declared.Profile.{Profile}
 use Rattle.walk.specs.Walk.{Sighting}
 use Rattle.walk.specs.Judge.{Terms, bodyIn, partOf, refused, accepted}
 use Rattle.walk.specs.Judge as judge
@@ -49,17 +50,17 @@ module _ (m : List ℕ) where
       let en : x .cookies ≡ length c = cc in
       rw (ep, ea, es, et, ek, en, l, server-body s (i .2), port-body t, entries-back m table c (i .4), length-map)
 
--- a call on m under the limit n with a table, where ps and qs were offered, as its contract tells it
-module _ (m : List ℕ) (n : ℕ) (ps qs table : List ℕ) (r : Answer) (table′ : List ℕ) (c : Reads m n ps qs table r table′) where
+-- a call on m in a profile, under the limit n and with a table, where ps and qs were offered, as its contract tells it
+module _ (P : Profile) (m : List ℕ) (n : ℕ) (ps qs table : List ℕ) (r : Answer) (table′ : List ℕ) (c : Reads P m n ps qs table r table′) where
   abbrev under : Terms
   under = offering ps qs (roomOf table)
 
   -- it answered a reply: then the definition accepts ..
-  pub answered : (x : KeyExchangeResponse) → r ≡ Accepted x → (q : Form Sighting) × (replyOf m n under ≡ accepted q)
-  answered x e = go (replyOf m n under) refl (ap toldAnswer (sym e) ∙ c .says)
+  pub answered : (x : KeyExchangeResponse) → r ≡ Accepted x → (q : Form Sighting) × (replyOf P m n under ≡ accepted q)
+  answered x e = go (replyOf P m n under) refl (ap toldAnswer (sym e) ∙ c .says)
     where
-      go : (o : judge.Answer Form) → replyOf m n under ≡ o → toldReply x ≡ toldBy m o
-          → (q : Form Sighting) × (replyOf m n under ≡ accepted q)
+      go : (o : judge.Answer Form) → replyOf P m n under ≡ o → toldReply x ≡ toldBy m o
+          → (q : Form Sighting) × (replyOf P m n under ≡ accepted q)
       go (refused y) w h = let z : _≡_ {A = ℕ} 0 1 = cc in absurd (omega arith)
       go (accepted q) w h = (q, w)
 
@@ -68,21 +69,21 @@ module _ (m : List ℕ) (n : ℕ) (ps qs table : List ℕ) (r : Answer) (table�
   form-not (reply p a s t k l) y h = cc
 
   -- .. and where the definition accepts, it answered a reply
-  pub answers : (q : Form Sighting) → replyOf m n under ≡ accepted q → (x : KeyExchangeResponse) × (r ≡ Accepted x)
+  pub answers : (q : Form Sighting) → replyOf P m n under ≡ accepted q → (x : KeyExchangeResponse) × (r ≡ Accepted x)
   answers q w = go r refl (c .says ∙ ap (toldBy m) w)
     where
       go : (o : Answer) → r ≡ o → toldAnswer o ≡ toldForm m q → (x : KeyExchangeResponse) × (r ≡ Accepted x)
       go (Accepted x) e h = (x, e)
       go (answer.Refused y) e h = let z : _≡_ {A = ℕ} 0 1 = form-not q (toldRefusal y) (sym h) in absurd (omega arith)
 
-  pub in-hand : (x : KeyExchangeResponse) (q : Form Sighting) → r ≡ Accepted x → replyOf m n under ≡ accepted q
+  pub in-hand : (x : KeyExchangeResponse) (q : Form Sighting) → r ≡ Accepted x → replyOf P m n under ≡ accepted q
       → handedOut m table′ x ≡ inHand (mapForm (bodyIn m) q)
   in-hand x q e w =
-      shown m table table′ x q (accepted-inside m n under q w) (ap toldAnswer (sym e) ∙ c .says ∙ ap (toldBy m) w)
+      shown m table table′ x q (accepted-inside P m n under q w) (ap toldAnswer (sym e) ∙ c .says ∙ ap (toldBy m) w)
       (c .left ∙ ap (λ (o : judge.Answer Form). tableAfter o table) w)
 
   -- where the definition refuses, so does the call, and no cell of the table changes
-  pub refuses : (y : Refused) → replyOf m n under ≡ refused y
+  pub refuses : (y : Refused) → replyOf P m n under ≡ refused y
       → (x : Refusal) × (r ≡ answer.Refused x) × (toldRefusal x ≡ y) × (table′ ≡ table)
   unfolding tableAfter
   refuses y w = go r refl (c .says ∙ ap (toldBy m) w)
@@ -99,10 +100,10 @@ module _ (m : List ℕ) (n : ℕ) (ps qs table : List ℕ) (r : Answer) (table�
 pub reply-faithful : Faithful reading shows reply-parse inHand
 reply-faithful = record {
   accepted-by = λ c s h.
-      let q = answered _ _ _ _ _ _ _ (c .met) (h .0) (h .1) in
-      (q .0, q .1, sym (in-hand _ _ _ _ _ _ _ (c .met) (h .0) (q .0) (h .1) (q .1)) ∙ h .2);
+      let q = answered _ _ _ _ _ _ _ _ (c .met) (h .0) (h .1) in
+      (q .0, q .1, sym (in-hand _ _ _ _ _ _ _ _ (c .met) (h .0) (q .0) (h .1) (q .1)) ∙ h .2);
   accepts = λ c q w.
-      let x = answers _ _ _ _ _ _ _ (c .met) q w in
-      (x .0, x .1, in-hand _ _ _ _ _ _ _ (c .met) (x .0) q (x .1) w);
-  refuses = λ c y w. refuses _ _ _ _ _ _ _ (c .met) y w;
+      let x = answers _ _ _ _ _ _ _ _ (c .met) q w in
+      (x .0, x .1, in-hand _ _ _ _ _ _ _ _ (c .met) (x .0) q (x .1) w);
+  refuses = λ c y w. refuses _ _ _ _ _ _ _ _ (c .met) y w;
 }

@@ -1,4 +1,4 @@
--- What a host gets in hand by the cells of ntske_read_reply is what a caller gets in hand of the reply that they tell.
+-- What a host gets in hand by the cells of ntske_read_reply or ntske_read_reply_strict is what a caller gets in hand of the reply that they tell.
 -- Assumes nothing.
 use mathlib.Core.Path.{_≡_, refl, sym, ap, _∙_}
 use mathlib.Core.List.{List}
@@ -12,6 +12,8 @@ use Rattle.wire.specs.Over.{over}
 use Rattle.wire.proofs.Over.{over-none}
 use Rattle.nts.specs.Refusal.{Refused}
 use Rattle.layout.specs.declared.Part.{Part}
+use Rattle.layout.specs.declared.Profile.{Profile}
+use Rattle.layout.specs.declared.Profile.the-variants.{Usual, Strict}
 use Rattle.walk.specs.Walk.{Sighting}
 use Rattle.walk.specs.Judge.{bodyIn, partOf, refused, accepted}
 use Rattle.walk.specs.Judge as judge
@@ -32,10 +34,10 @@ use Rattle.promises.specs.HandedReply.{Shown, handedOut, inHand}
 use Rattle.promises.specs.Numbers.{Table}
 use Rattle.promises.specs.Cells.{replyInHand}
 use Rattle.promises.proofs.HandingReply.{in-hand}
-use Rattle.promises.specs.Called.{reply-read}
+use Rattle.promises.specs.Called.{ReadReply, ReadReplyStrict, HostRead, answering-host-reply, replyHost, replyHostStrict, reply-read, reply-read-strict}
 use Rattle.promises.proofs.Steady.{Faithful}
 use Rattle.promises.proofs.Hosted.{Hosted, granted}
-use Rattle.promises.proofs.HostedRequest.{flag-back}
+use Rattle.promises.proofs.HostedRequest.{flag-back, table-barred}
 
 -- ---- the reply that an accepted message tells
 
@@ -78,20 +80,20 @@ module _ (m : List ℕ) where
   cells-back : (table lent : List ℕ) (x : KeyExchangeResponse) → replyInHand m table (held (replyGiven (toldReply x)) lent) ≡ handedOut m table x
   cells-back table lent x = rw (server-back (toldServer (x .server)), port-back (toldPort (x .port)), flag-back (x .«keep_alive»))
 
--- ---- a call
+-- ---- a call in a profile
 
-module _ {m : List ℕ} {n : ℕ} {o : List ℕ × List ℕ} {table lent : List ℕ} {r : ℕ} {table′ after : List ℕ} (c : ReadsReply m n (o .0) (o .1) table lent r table′ after) where
-  pub reply-grants : (q : Form Sighting) → replyOf m n (offering (o .0) (o .1) (roomOf table)) ≡ accepted q → (r ≡ 0) × (replyInHand m table′ after ≡ inHand (mapForm (bodyIn m) q))
+module _ {P : Profile} {m : List ℕ} {n : ℕ} {o : List ℕ × List ℕ} {table lent : List ℕ} {r : ℕ} {table′ after : List ℕ} (c : ReadsReply P m n (o .0) (o .1) table lent r table′ after) where
+  pub reply-grants : (q : Form Sighting) → replyOf P m n (offering (o .0) (o .1) (roomOf table)) ≡ accepted q → (r ≡ 0) × (replyInHand m table′ after ≡ inHand (mapForm (bodyIn m) q))
   reply-grants q w =
       let x = responseOf m q in
-      let e : toldBy m (replyOf m n (offering (o .0) (o .1) (roomOf table))) ≡ toldReply x = ap (toldBy m) w ∙ sym (told-of m q) in
-      let reads : Reads m n (o .0) (o .1) table (Accepted x) table′ = record { says = sym e; left = c .left } in (
+      let e : toldBy m (replyOf P m n (offering (o .0) (o .1) (roomOf table))) ≡ toldReply x = ap (toldBy m) w ∙ sym (told-of m q) in
+      let reads : Reads P m n (o .0) (o .1) table (Accepted x) table′ = record { says = sym e; left = c .left } in (
         c .gives .says ∙ ap (λ (t : _). returned (replyGiven t)) e,
         ap (replyInHand m table′) (c .gives .left ∙ ap (λ (t : _). held (replyGiven t) lent) e) ∙ cells-back m table′ lent x
-            ∙ in-hand m n (o .0) (o .1) table (Accepted x) table′ reads x q refl w,
+            ∙ in-hand P m n (o .0) (o .1) table (Accepted x) table′ reads x q refl w,
       )
 
-  pub reply-refuses : (y : Refused) → replyOf m n (offering (o .0) (o .1) (roomOf table)) ≡ refused y → (r ≡ word y) × (table′ ≡ table) × (after ≡ lent)
+  pub reply-refuses : (y : Refused) → replyOf P m n (offering (o .0) (o .1) (roomOf table)) ≡ refused y → (r ≡ word y) × (table′ ≡ table) × (after ≡ lent)
   unfolding tableAfter
   reply-refuses y w = (
     c .gives .says ∙ ap (λ (z : judge.Answer Form). returned (replyGiven (toldBy m z))) w,
@@ -100,24 +102,32 @@ module _ {m : List ℕ} {n : ℕ} {o : List ℕ × List ℕ} {table lent : List 
   )
 
 -- what else is lent is the two lists that were offered
-abbrev pub hosted-reply : Hosted Form Shown (List ℕ × List ℕ)
-hosted-reply = record {
-  reading = λ m n o room. replyOf m n (offering (o .0) (o .1) room);
+abbrev pub hosted-reply : Profile → Hosted Form Shown (List ℕ × List ℕ)
+hosted-reply P = record {
+  reading = λ m n o room. replyOf P m n (offering (o .0) (o .1) room);
   shows = shows;
-  Reads = λ m n o t l r u a. ReadsReply m n (o .0) (o .1) t l r u a;
+  Reads = λ m n o t l r u a. ReadsReply P m n (o .0) (o .1) t l r u a;
   hand = replyInHand;
   inHand = inHand;
   grants = reply-grants;
   refuses = reply-refuses;
-  numbered = λ m n o room. reply-numbered Table (omega arith) m n (offering (o .0) (o .1) room);
+  numbered = λ m n o room. reply-numbered Table (omega arith) P (table-barred P) m n (offering (o .0) (o .1) room);
 }
 
--- so every call answers as the definition does
-pub reply-hosted : Faithful reading shows reply-read inHand
-reply-hosted = record {
+-- so calls that each meet the reader's contract answer as the definition does
+pub reads-hosted : (C : Type 1) (P : Profile) (of : C → HostRead)
+    → ((c : C) → ReadsReply P (of c .message) (of c .limit) (of c .protocols) (of c .algorithms) (of c .table) (of c .lent) (of c .answer) (of c .filled) (of c .after))
+    → Faithful reading shows (answering-host-reply C P of) inHand
+reads-hosted C P of met = record {
   accepted-by = λ c s h.
-      let q = granted hosted-reply (c .met) (h .0) in
-      (q .0, q .1, sym (reply-grants (c .met) (q .0) (q .1) .1) ∙ h .1);
-  accepts = λ c q w. reply-grants (c .met) q w;
-  refuses = λ c y w. reply-refuses (c .met) y w;
+      let q = granted (hosted-reply P) (met c) (h .0) in
+      (q .0, q .1, sym (reply-grants (met c) (q .0) (q .1) .1) ∙ h .1);
+  accepts = λ c q w. reply-grants (met c) q w;
+  refuses = λ c y w. reply-refuses (met c) y w;
 }
+
+pub reply-hosted : Faithful reading shows reply-read inHand
+reply-hosted = reads-hosted ReadReply Usual replyHost (λ c. c .met)
+
+pub reply-hosted-strict : Faithful reading shows reply-read-strict inHand
+reply-hosted-strict = reads-hosted ReadReplyStrict Strict replyHostStrict (λ c. c .met)

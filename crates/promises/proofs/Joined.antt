@@ -3,25 +3,27 @@
 -- Assumes nothing.
 use mathlib.Core.Path.{_≡_, refl, sym, ap, _∙_, subst}
 use mathlib.Core.List.{List, [], _∷_, _++_, append-assoc}
-use mathlib.Core.Bool.{Bool, true, false, cond, not, _&&_, and-false, true≢false}
+use mathlib.Core.Bool.{Bool, true, false, cond, not, _&&_, _||_, and-false, true≢false}
+use mathlib.Core.Logic.{_⊎_, inl, inr}
 use Prim.Native.Nat.{ℕ, zero, suc, _+_, _≤_}
 use native.Mathlib.Omega.{arith}
 use lib.ListN.{length, take, drop, length-append, take-append-drop}
 use lib.Seq.{drop-at, length-take-le}
 use lib.Dec.{ltb}
+use borrow.Author.Tests.{le-ltb}
 use Rattle.wire.specs.Over.{over}
 use Rattle.nts.specs.Refusal.{Refused}
 use Rattle.record.specs.Record.{kind, size}
-use Rattle.walk.specs.Walk.{Reader, ends, faultIn, actIn, Sighting, Step, stops, goes, meet, judge, step}
+use Rattle.layout.specs.declared.Profile.{Profile}
+use Rattle.walk.specs.Walk.{Reader, Sighting}
 use Rattle.walk.specs.Judge as judging
-use Rattle.walk.specs.Judge.{Terms, Under, Judge, bodyIn, readBy}
+use Rattle.walk.specs.Judge.{Terms, Under, Judge, bodyIn, readAs, readBy}
 use Rattle.walk.specs.Message.{Whole, Record, End, Each, flat, message, contents}
-use Rattle.walk.specs.Shown.{slotOf}
-use Rattle.walk.specs.Met.{Passing, halts, on, metBelow, withMet, passing}
+use Rattle.walk.specs.Met.{Passing, halts, on, passing}
 use Rattle.walk.proofs.Passing.{take-over}
 use Rattle.pieces.specs.Pieces.{Line, pending, Brought, Going, whole, going, Read, Fed, none, answers, refusedAt, filledBy, Says, nothingYet, says, saysOf, held}
 use Rattle.pieces.proofs.Going.{long-whole, whole-more, size-more, going-halts, going-on}
-use Rattle.promises.specs.Pieces.{decided, lacksRoom, undecided, answerOn, heldOn, Made, Feeder, madeBy, lineIn, joinedIn, Told, Run, joinedReader}
+use Rattle.promises.specs.Pieces.{decided, lacksRoom, lasts, undecided, answerOn, heldOn, Made, Feeder, madeBy, lineIn, joinedIn, Told, Run, joinedReader}
 use Rattle.promises.proofs.Steady.{Able, Answering}
 use Rattle.promises.proofs.Coming.{fit-short, isDecides, cameOn, came-short, decided-is, decided-more, held-is}
 use Rattle.promises.proofs.Waiting as waiting
@@ -29,19 +31,10 @@ use Rattle.promises.proofs.Cutting.{Local, Meets, stops-in, read-held, 
 
 -- ---- the end record decides
 
--- whatever was met, and whatever its body
-end-halts : (R : Reader) (e : List ℕ) → actIn R e ≡ ends → (met : ℕ) → passing R met e ≡ halts
-unfolding passing step judge meet
-end-halts R e a met = go (faultIn R e)
-  where
-    go : (f : ℕ) → _≡_ {A = Passing} (elim (judge R (metBelow met 15) 0 e f) as (λ (y : Step). Passing) [ stops o ↦ halts | goes st ↦ on (withMet met (slotOf (kind e))) ]) halts
-    go zero = rw a
-    go (suc f) = refl
-
-module _ (R : Reader) (zeros : (e : List ℕ) → kind e ≡ 0 → actIn R e ≡ ends) where
+module _ (R : Reader) (zeros : (e : List ℕ) → kind e ≡ 0 → (met : ℕ) → passing R met e ≡ halts) where
   -- so records and an end record decide
   through-end : (cs : List (List ℕ)) (e : List ℕ) → Each Record cs → End e → (met at : ℕ) → isDecides (going R met at 0 (flat cs ++ e)) ≡ true
-  through-end [] e i h met at = ap isDecides (going-halts R met at e (long-whole e (omega (arith, h .0))) (end-halts R e (zeros e (h .1)) met))
+  through-end [] e i h met at = ap isDecides (going-halts R met at e (long-whole e (omega (arith, h .0))) (zeros e (h .1) met))
   through-end (c ∷ cs) e i h met at = ap (λ (s : List ℕ). isDecides (going R met at 0 s)) (append-assoc c (flat cs) e) ∙ go (λ m at. through-end cs e (i .1) h m at) (passing R met (c ++ rest)) refl
     where
       rest : List ℕ
@@ -63,15 +56,15 @@ module _ (R : Reader) (zeros : (e : List ℕ) → kind e ≡ 0 → actIn R e ≡
           ∙ ap (λ (s : List ℕ). isDecides (going R m (at + (4 + size (c ++ rest))) 0 s)) behind
           ∙ later m (at + (4 + size (c ++ rest)))
 
-module _ (X : Read) (L : Local X) where
+module _ (X : Read) (L : Local X) (P : Profile) where
   abbrev R : Reader
-  R = X .reader
+  R = X .reader P
 
   abbrev D : Judge
   D = X .judging
 
   abbrev under : ℕ → Terms → Under
-  under n x = record { limit = n; terms = x }
+  under n x = record { profile = P; limit = n; terms = x }
 
   -- ---- a message of records, an end record and a tail, and room through the end record
 
@@ -83,21 +76,37 @@ module _ (X : Read) (L : Local X) where
     apart = sym (append-assoc (flat cs) e t)
 
     front-decides : decided R front ≡ true
-    front-decides = decided-is R (stops-in X L) front ∙ through-end R (L .ends) cs e i h 0 0
+    front-decides = decided-is R (stops-in X L P) front ∙ through-end R (L .ends P) cs e i h 0 0
 
     all-decide : decided R (message cs e t) ≡ true
-    all-decide = ap (decided R) apart ∙ decided-more R (stops-in X L) front t front-decides
+    all-decide = ap (decided R) apart ∙ decided-more R (stops-in X L P) front t front-decides
 
     room-decides : (room : ℕ) → length (flat cs) + length e ≤ room → decided R (take room (message cs e t)) ≡ true
     room-decides room l =
         ap (λ (s : List ℕ). decided R (take room s)) apart
         ∙ ap (decided R) (take-over room front t (omega (arith, length-append (flat cs) e)))
-        ∙ decided-more R (stops-in X L) front _ front-decides
+        ∙ decided-more R (stops-in X L P) front _ front-decides
 
-    answer-through : (n room : ℕ) (closed : Bool) (cells : Terms) → length (flat cs) + length e ≤ room
-        → answerOn X n room (record { piece = message cs e t; closed = closed }) cells ≡ answers (readBy R D (message cs e t) (under n cells))
-    unfolding answerOn lacksRoom undecided
-    answer-through n room closed cells l = rw (room-decides room l, all-decide, and-false, and-false)
+    -- no wait for more, unless it would wait behind the end record; and there, if the line closed or the limit is not past that
+    waits-not : (n : ℕ) (closed : Bool) → (lasts R (message cs e t) ≡ true → (closed ≡ true) ⊎ (n ≤ length (flat cs) + length e)) → undecided R n (record { piece = message cs e t; closed = closed }) ≡ false
+    unfolding undecided
+    waits-not n closed f = go (lasts R (message cs e t)) refl
+      where
+        long : length (flat cs) + length e ≤ length (message cs e t)
+        long = omega (arith, ap length apart, length-append front t, length-append (flat cs) e)
+
+        by : (w : Bool) → (closed ≡ true) ⊎ (n ≤ length (flat cs) + length e) → (not closed && ltb (length (message cs e t)) n && w) ≡ false
+        by w (inl c) = rw c
+        by w (inr l) = rw (le-ltb (length (message cs e t)) n (omega (arith, l, long)), and-false)
+
+        go : (b : Bool) → lasts R (message cs e t) ≡ b → (not closed && ltb (length (message cs e t)) n && (not (decided R (message cs e t)) || b)) ≡ false
+        go false q = rw (all-decide, and-false)
+        go true q = by _ (f q)
+
+    answer-through : (n room : ℕ) (closed : Bool) (cells : Terms) → length (flat cs) + length e ≤ room → (lasts R (message cs e t) ≡ true → (closed ≡ true) ⊎ (n ≤ length (flat cs) + length e))
+        → answerOn X P n room (record { piece = message cs e t; closed = closed }) cells ≡ answers (readAs R D (message cs e t) (under n cells))
+    unfolding answerOn lacksRoom
+    answer-through n room closed cells l f = rw (room-decides room l, waits-not n closed f, and-false)
 
   -- ---- an answer that accepts is the whole-message reader's
 
@@ -108,40 +117,44 @@ module _ (X : Read) (L : Local X) where
     pub record Reads (a : judging.Answer (D .Q)) : Type 0 where
       pub room-for : lacksRoom R n room j ≡ false
       pub sure : undecided R n joined ≡ false
-      pub whole-is : readBy R D j (under n cells) ≡ a
+      pub whole-is : readAs R D j (under n cells) ≡ a
 
-    accepted-reads : (q : D .Q Sighting) → answerOn X n room joined cells ≡ answers (judging.accepted q) → Reads (judging.accepted q)
+    accepted-reads : (q : D .Q Sighting) → answerOn X P n room joined cells ≡ answers (judging.accepted q) → Reads (judging.accepted q)
     unfolding answerOn
     accepted-reads q = go (lacksRoom R n room j) refl (undecided R n joined) refl
       where
         go : (s : Bool) → lacksRoom R n room j ≡ s → (t : Bool) → undecided R n joined ≡ t
-            → cond s (refusedAt 16 room) (cond t none (answers (readBy R D j (under n cells)))) ≡ answers (judging.accepted q) → Reads (judging.accepted q)
+            → cond s (refusedAt 16 room) (cond t none (answers (readAs R D j (under n cells)))) ≡ answers (judging.accepted q) → Reads (judging.accepted q)
         go true l t u e = let z : _≡_ {A = ℕ} 0 1 = cc in absurd (omega arith)
         go false l true u e = let z : _≡_ {A = ℕ} 0 1 = cc in absurd (omega arith)
         go false l false u e = record { room-for = l; sure = u; whole-is = cc }
 
     held-long : length (take (heldOn R n room j) j) ≡ heldOn R n room j
-    held-long = length-take-le (heldOn R n room j) j (omega (arith, held-is R (stops-in X L) n room j closed, came-short R n room j closed, fit-short n room j .0))
+    held-long = length-take-le (heldOn R n room j) j (omega (arith, held-is R (stops-in X L P) n room j closed, came-short R n room j closed, fit-short n room j .0))
 
-  -- ---- the calls of a function
+-- ---- the calls of a function
+
+module _ (X : Read) (L : Local X) where
+  abbrev D′ : Judge
+  D′ = X .judging
 
   -- the bytes gathered after a call
   abbrev gathered : Made X → List ℕ
   gathered x = held (x .after) (x .left)
 
   -- what is asked of it: its calls meet the definition; one that says what is accepted of the bytes gathered accepted that; and one that says a refusal refused
-  pub record Handing {S : Type 0} (F : Feeder X S) (inHand : D .Q (List ℕ) → S) : Type 1 where
+  pub record Handing {S : Type 0} (F : Feeder X S) (inHand : D′ .Q (List ℕ) → S) : Type 1 where
     pub meets : (c : F .Call) → Meets X (F .made c)
-    pub accepts : (c : F .Call) (u : Under) (q : D .Q Sighting) → readBy R D (gathered (F .made c)) u ≡ judging.accepted q
+    pub accepts : (c : F .Call) (u : Under) (q : D′ .Q Sighting) → readBy (X .reader) D′ (gathered (F .made c)) u ≡ judging.accepted q
         → F .made c .said ≡ says (X .tells (gathered (F .made c)) (judging.accepted q)) → F .made c .filled ≡ X .fills (judging.accepted q) (F .made c .table)
-        → F .Accepts c (inHand (contents D (gathered (F .made c)) q))
+        → F .Accepts c (inHand (contents D′ (gathered (F .made c)) q))
     pub accepted-by : (c : F .Call) (s : S) → F .Accepts c s
         → (y : X .Told) × (F .made c .said ≡ says y) × ((m : List ℕ) (r : Refused) → y ≡ X .tells m (judging.refused r) → ⊥)
     pub one : (c : F .Call) (s s′ : S) → F .Accepts c s → F .Accepts c s′ → s ≡ s′
     pub refuses : (c : F .Call) (m : List ℕ) (y : Refused) → F .made c .said ≡ says (X .tells m (judging.refused y))
         → F .made c .filled ≡ X .fills (judging.refused y) (F .made c .table) → F .Refuses c y
 
-  module _ {S : Type 0} (F : Feeder X S) (inHand : D .Q (List ℕ) → S) (G : Handing F inHand) where
+  module _ {S : Type 0} (F : Feeder X S) (inHand : D′ .Q (List ℕ) → S) (G : Handing F inHand) where
     module _ (c : Run F) where
       abbrev x : Made X
       x = F .made (c .last)
@@ -153,81 +166,80 @@ module _ (X : Read) (L : Local X) where
       j = all .piece
 
       abbrev asked : Under
-      asked = under (c .limit) (x .terms)
+      asked = record { profile = c .profile; limit = c .limit; terms = x .terms }
 
       abbrev i : ℕ
-      i = heldOn R (c .limit) (length (c .buffer)) j
+      i = heldOn (X .reader (c .profile)) (c .limit) (length (c .buffer)) j
 
-      abbrev answer : Fed (D .Q)
-      answer = answerOn X (c .limit) (length (c .buffer)) all (x .terms)
+      abbrev answer : Fed (D′ .Q)
+      answer = answerOn X (c .profile) (c .limit) (length (c .buffer)) all (x .terms)
 
-      told : Told X (c .limit) (c .buffer) all x
-      told = however-cut X L F (G .meets) .first (c .limit) (c .buffer) (c .before) (c .last) (c .online) (c .waited)
+      told : Told X (c .profile) (c .limit) (c .buffer) all x
+      told = however-cut X L F (G .meets) .first (c .profile) (c .limit) (c .buffer) (c .before) (c .last) (c .online) (c .waited)
 
       gathered-is : gathered x ≡ take i j
       gathered-is =
           ap (λ (k : ℕ). take k (x .left)) (told .gathered)
           ∙ ap (take i) (told .buffer)
-          ∙ waiting.take-over (take i j) (c .buffer) i (held-long (c .limit) (length (c .buffer)) j (all .closed) (x .terms))
+          ∙ waiting.take-over (take i j) (c .buffer) i (held-long X L (c .profile) (c .limit) (length (c .buffer)) j (all .closed) (x .terms))
 
       both : gathered x ++ drop i j ≡ j
       both = ap (λ (s : List ℕ). s ++ drop i j) gathered-is ∙ take-append-drop i j
 
       -- what is accepted of the joined bytes is so of those gathered, which say and show the same
-      module _ (q : D .Q Sighting) (a : answer ≡ answers (judging.accepted q)) where
-        by : Reads (c .limit) (length (c .buffer)) j (all .closed) (x .terms) (judging.accepted q)
-        by = accepted-reads (c .limit) (length (c .buffer)) j (all .closed) (x .terms) q a
+      module _ (q : D′ .Q Sighting) (a : answer ≡ answers (judging.accepted q)) where
+        by : Reads X L (c .profile) (c .limit) (length (c .buffer)) j (all .closed) (x .terms) (judging.accepted q)
+        by = accepted-reads X L (c .profile) (c .limit) (length (c .buffer)) j (all .closed) (x .terms) q a
 
-        read-gathered : readBy R D (gathered x) asked ≡ judging.accepted q
+        read-gathered : readBy (X .reader) D′ (gathered x) asked ≡ judging.accepted q
         read-gathered =
-            ap (λ (s : List ℕ). readBy R D s asked) gathered-is
-            ∙ read-held X L (c .limit) (length (c .buffer)) j (all .closed) (x .terms) (by .room-for) (by .sure)
-            ∙ by .whole-is
+            ap (λ (s : List ℕ). readBy (X .reader) D′ s asked) gathered-is
+            ∙ read-held X L (c .profile) (c .limit) (length (c .buffer)) j (all .closed) (x .terms) q (by .room-for) (by .sure) (by .whole-is)
 
         said-gathered : x .said ≡ says (X .tells (gathered x) (judging.accepted q))
         said-gathered =
             told .answer
             ∙ ap (saysOf X j) a
             ∙ ap (λ (s : List ℕ). says (X .tells s (judging.accepted q))) (sym both)
-            ∙ ap (λ (o : judging.Answer (D .Q)). says (X .tells (gathered x ++ drop i j) o)) (sym read-gathered)
+            ∙ ap (λ (o : judging.Answer (D′ .Q)). says (X .tells (gathered x ++ drop i j) o)) (sym read-gathered)
             ∙ ap says (L .tells (gathered x) (drop i j) asked)
-            ∙ ap (λ (o : judging.Answer (D .Q)). says (X .tells (gathered x) o)) read-gathered
+            ∙ ap (λ (o : judging.Answer (D′ .Q)). says (X .tells (gathered x) o)) read-gathered
 
         filled-gathered : x .filled ≡ X .fills (judging.accepted q) (x .table)
-        filled-gathered = told .table ∙ ap (λ (f : Fed (D .Q)). filledBy X f (x .table)) a
+        filled-gathered = told .table ∙ ap (λ (f : Fed (D′ .Q)). filledBy X f (x .table)) a
 
-        shown-gathered : contents D (gathered x) q ≡ contents D j q
-        shown-gathered = sym (L .shows (gathered x) (drop i j) asked q read-gathered) ∙ ap (λ (s : List ℕ). contents D s q) both
+        shown-gathered : contents D′ (gathered x) q ≡ contents D′ j q
+        shown-gathered = sym (L .shows (gathered x) (drop i j) asked q read-gathered) ∙ ap (λ (s : List ℕ). contents D′ s q) both
 
-        accepts-joined : F .Accepts (c .last) (inHand (contents D j q))
-        accepts-joined = subst (λ (y : D .Q (List ℕ)). F .Accepts (c .last) (inHand y)) shown-gathered (G .accepts (c .last) asked q read-gathered said-gathered filled-gathered)
+        accepts-joined : F .Accepts (c .last) (inHand (contents D′ j q))
+        accepts-joined = subst (λ (y : D′ .Q (List ℕ)). F .Accepts (c .last) (inHand y)) shown-gathered (G .accepts (c .last) asked q read-gathered said-gathered filled-gathered)
 
       -- with room through the end record the answer is the whole-message reader's
-      answer-able : Able (readBy R D) (contents D) (joinedReader F) c → answer ≡ answers (readBy R D j asked)
+      answer-able : Able (readBy (X .reader) D′) (contents D′) (joinedReader F) c → answer ≡ answers (readBy (X .reader) D′ j asked)
       answer-able r =
-          ap (λ (s : List ℕ). answerOn X (c .limit) (length (c .buffer)) (record { piece = s; closed = all .closed }) (x .terms)) (r .asked)
-          ∙ answer-through (r .front) (r .last) (r .tail) (r .each) (r .ends) (c .limit) (length (c .buffer)) (all .closed) (x .terms) (r .holds)
-          ∙ ap (λ (s : List ℕ). answers (readBy R D s asked)) (sym (r .asked))
+          ap (λ (s : List ℕ). answerOn X (c .profile) (c .limit) (length (c .buffer)) (record { piece = s; closed = all .closed }) (x .terms)) (r .asked)
+          ∙ answer-through X L (c .profile) (r .front) (r .last) (r .tail) (r .each) (r .ends) (c .limit) (length (c .buffer)) (all .closed) (x .terms) (r .holds .0) (λ q. r .holds .1 (ap (lasts (X .reader (c .profile))) (r .asked) ∙ q))
+          ∙ ap (λ (s : List ℕ). answers (readBy (X .reader) D′ s asked)) (sym (r .asked))
 
       refuses-joined : (y : Refused) → answer ≡ answers (judging.refused y) → F .Refuses (c .last) y
-      refuses-joined y a = G .refuses (c .last) j y (told .answer ∙ ap (saysOf X j) a) (told .table ∙ ap (λ (f : Fed (D .Q)). filledBy X f (x .table)) a)
+      refuses-joined y a = G .refuses (c .last) j y (told .answer ∙ ap (saysOf X j) a) (told .table ∙ ap (λ (f : Fed (D′ .Q)). filledBy X f (x .table)) a)
 
       accepted-joined : (s : S) → F .Accepts (c .last) s
-          → (q : D .Q Sighting) × (readBy R D j asked ≡ judging.accepted q) × (inHand (contents D j q) ≡ s)
+          → (q : D′ .Q Sighting) × (readBy (X .reader) D′ j asked ≡ judging.accepted q) × (inHand (contents D′ j q) ≡ s)
       accepted-joined s h = go answer refl
         where
           says-one : {T : Type 0} (y z : T) → says y ≡ says z → y ≡ z
           says-one y z e = cc
 
-          said : (f : Fed (D .Q)) → answer ≡ f → says (G .accepted-by (c .last) s h .0) ≡ saysOf X j f
+          said : (f : Fed (D′ .Q)) → answer ≡ f → says (G .accepted-by (c .last) s h .0) ≡ saysOf X j f
           said f a = sym (G .accepted-by (c .last) s h .1) ∙ told .answer ∙ ap (saysOf X j) a
 
-          go : (f : Fed (D .Q)) → answer ≡ f → (q : D .Q Sighting) × (readBy R D j asked ≡ judging.accepted q) × (inHand (contents D j q) ≡ s)
+          go : (f : Fed (D′ .Q)) → answer ≡ f → (q : D′ .Q Sighting) × (readBy (X .reader) D′ j asked ≡ judging.accepted q) × (inHand (contents D′ j q) ≡ s)
           go none a = let e = said none a in let z : _≡_ {A = ℕ} 0 1 = cc in absurd (omega arith)
           go (answers (judging.refused r)) a = absurd (G .accepted-by (c .last) s h .2 j r (says-one _ _ (said (answers (judging.refused r)) a)))
           go (answers (judging.accepted q)) a = (q, by q a .whole-is, G .one (c .last) _ s (accepts-joined q a) h)
 
-    pub joined-answering : Answering (readBy R D) (contents D) (joinedReader F) inHand
+    pub joined-answering : Answering (readBy (X .reader) D′) (contents D′) (joinedReader F) inHand
     joined-answering = record {
       accepted-by = accepted-joined;
       accepts = λ c r q w. accepts-joined c q (answer-able c r ∙ ap answers w);

@@ -40,3 +40,4 @@ pub mod ExactFed
 pub mod Counting
 pub mod Findings
 pub mod FindingsFace
+pub mod Strictness

@@ -4,7 +4,7 @@
 use mathlib.Core.Path.{_≡_, refl, sym, ap, _∙_}
 use mathlib.Core.List.{List, [], _∷_, _++_, map}
 use mathlib.Core.Bool.{Bool, true, false, cond, not, _||_}
-use Prim.Native.Nat.{ℕ, _+_, _≤_}
+use Prim.Native.Nat.{ℕ, zero, suc, _+_, _≤_}
 use native.Mathlib.Omega.{arith}
 use lib.ListN.{length, take, drop, length-drop}
 use lib.Seq.{drop-append-le, take-append-le}
@@ -12,11 +12,17 @@ use lib.Dec.{ltb, eqb}
 use borrow.Author.Tests.{le-ltb}
 use Rattle.wire.specs.Bytes.{numberAt}
 use Rattle.nts.specs.Refusal.{Beside, nothing}
-use Rattle.walk.specs.Walk.{Sighting}
-use Rattle.walk.specs.Judge as judge
+use Rattle.record.specs.Record.{kind, critical, size, there}
+use Rattle.layout.specs.Profile.{asksOf, allows}
+use Rattle.layout.specs.declared.Profile.{Profile}
+use Rattle.walk.specs.Walk.{Act, ends, refuses, Reader, faultIn, Step, stops, goes, meet, judge, step, Sighting}
+use Rattle.walk.specs.Table.{tableReader}
+use Rattle.walk.specs.Shown.{slotOf}
+use Rattle.walk.specs.Met.{Passing, halts, on, metBelow, withMet, passing}
+use Rattle.walk.specs.Judge as judging
 use Rattle.walk.specs.Judge.{Terms, roomFor, Under, Verdict, no, yes, some, withFirst, bodyIn, readBy}
 use Rattle.walk.proofs.Noted.{Inside}
-use Rattle.walk.proofs.Demand3.{zero-ends}
+use Rattle.walk.proofs.Demand3.{zero-act}
 use Rattle.request.specs.Request as requests
 use Rattle.request.proofs.Reader as request-reader
 use Rattle.request.proofs.Order as request-order
@@ -68,6 +74,25 @@ module _ {Q : Type 0 → Type 0} (q : Q Sighting) where
       go true x = let z : _≡_ {A = ℕ} 0 1 = cc in absurd (omega arith)
       go false x = x
 
+-- ---- with a record of kind 0 the walk stops: it ends the message, or the profile does not allow it
+
+module _ (f : ℕ → List ℕ → Act) (once : ℕ → Bool) (on-goes : (k : ℕ) (b : List ℕ) → f k b ≡ ends → ⊥) (P : Profile) where
+  abbrev R : Reader
+  R = tableReader f once P
+
+  zero-halts : (e : List ℕ) → kind e ≡ 0 → (met : ℕ) → passing R met e ≡ halts
+  unfolding passing step judge meet
+  zero-halts e z met = go (faultIn R e)
+    where
+      by : (a : Act) (t : Bool) → a ≡ cond t ends (refuses 18 nothing)
+          → _≡_ {A = Passing} (elim (meet R (metBelow met 15) 0 (kind e) (size e) a) as (λ (y : Step). Passing) [ stops o ↦ halts | goes st ↦ on (withMet met (slotOf (R .shape) (kind e))) ]) halts
+      by a true h = rw h
+      by a false h = rw h
+
+      go : (n : ℕ) → _≡_ {A = Passing} (elim (judge R (metBelow met 15) 0 e n) as (λ (y : Step). Passing) [ stops o ↦ halts | goes st ↦ on (withMet met (slotOf (R .shape) (kind e))) ]) halts
+      go zero = by _ (allows (asksOf P (kind e)) (critical e) (there e)) (zero-act f once on-goes P e z)
+      go (suc n) = refl
+
 -- ---- requests
 
 module _ (m t : List ℕ) where
@@ -97,18 +122,18 @@ module _ (m t : List ℕ) where
       rw (body-tail m t u (i .0), body-tail m t x (i .1 .0), body-tail m t a (i .1 .1 .0), body-tail m t p (i .1 .1 .1 .0))
   map-tail (requests.support u p a k) i = rw (body-tail m t u (i .0))
 
-  request-shown : (u : Under) (q : requests.Form Sighting) → readBy requests.reader requests.judging m u ≡ judge.accepted q
+  request-shown : (u : Under) (q : requests.Form Sighting) → readBy requests.reader requests.judging m u ≡ judging.accepted q
       → requests.mapForm (bodyIn (m ++ t)) q ≡ requests.mapForm (bodyIn m) q
   unfolding requests.request
-  request-shown u q e = map-tail q (request-order.accepted-inside m (u .limit) (u .terms .room) q (sym (request-order.room-alone m u) ∙ e))
+  request-shown u q e = map-tail q (request-order.accepted-inside (u .profile) m (u .limit) (u .terms .room) q (sym (request-order.room-alone m u) ∙ e))
 
   request-told : (u : Under) → requests.toldBy (m ++ t) (readBy requests.reader requests.judging m u) ≡ requests.toldBy m (readBy requests.reader requests.judging m u)
   unfolding requests.request
   request-told u = go (readBy requests.reader requests.judging m u) refl
     where
-      go : (x : judge.Answer requests.Form) → readBy requests.reader requests.judging m u ≡ x → requests.toldBy (m ++ t) x ≡ requests.toldBy m x
-      go (judge.refused r) e = refl
-      go (judge.accepted q) e = form-tail q (request-order.accepted-inside m (u .limit) (u .terms .room) q (sym (request-order.room-alone m u) ∙ e))
+      go : (x : judging.Answer requests.Form) → readBy requests.reader requests.judging m u ≡ x → requests.toldBy (m ++ t) x ≡ requests.toldBy m x
+      go (judging.refused r) e = refl
+      go (judging.accepted q) e = form-tail q (request-order.accepted-inside (u .profile) m (u .limit) (u .terms .room) q (sym (request-order.room-alone m u) ∙ e))
 
 request-roomy : (room room′ : ℕ) (l : ℕ → List Sighting) (val : Sighting → List ℕ) (q : requests.Form Sighting) → ((k : ℕ) → length (l k) ≤ room′)
     → requests.decide room val l ≡ yes q → requests.decide room′ val l ≡ yes q
@@ -126,9 +151,9 @@ request-local = record {
   decides = λ u l m t i. request-tail m t (u .terms .room) l i;
   tells = λ m t u. request-told m t u;
   shows = λ m t u q e. request-shown m t u q e;
-  ends = λ e z. zero-ends requests.act requests.once request-goes e z;
+  ends = λ P e z met. zero-halts requests.act requests.once request-goes P e z met;
   refuses = λ m m′ r. refl;
-  roomy = λ n x room l val q few e. request-roomy (x .room) room l val q few e;
+  roomy = λ P n x room l val q few e. request-roomy (x .room) room l val q few e;
 }
 
 -- ---- replies
@@ -158,18 +183,18 @@ module _ (m t : List ℕ) where
   reply-map-tail (replies.reply p a s n k c) i =
       rw (body-tail m t p (i .0), body-tail m t a (i .1), sent-body s (i .2), sent-body n (i .3), bodies-tail m t c (i .4))
 
-  reply-shown : (u : Under) (q : replies.Form Sighting) → readBy replies.reader replies.judging m u ≡ judge.accepted q
+  reply-shown : (u : Under) (q : replies.Form Sighting) → readBy replies.reader replies.judging m u ≡ judging.accepted q
       → replies.mapForm (bodyIn (m ++ t)) q ≡ replies.mapForm (bodyIn m) q
   unfolding replies.replyOf
-  reply-shown u q e = reply-map-tail q (reply-order.accepted-inside m (u .limit) (u .terms) q e)
+  reply-shown u q e = reply-map-tail q (reply-order.accepted-inside (u .profile) m (u .limit) (u .terms) q e)
 
   reply-told : (u : Under) → replies.toldBy (m ++ t) (readBy replies.reader replies.judging m u) ≡ replies.toldBy m (readBy replies.reader replies.judging m u)
   unfolding replies.replyOf
   reply-told u = go (readBy replies.reader replies.judging m u) refl
     where
-      go : (x : judge.Answer replies.Form) → readBy replies.reader replies.judging m u ≡ x → replies.toldBy (m ++ t) x ≡ replies.toldBy m x
-      go (judge.refused r) e = refl
-      go (judge.accepted q) e = reply-form-tail q (reply-order.accepted-inside m (u .limit) (u .terms) q e)
+      go : (x : judging.Answer replies.Form) → readBy replies.reader replies.judging m u ≡ x → replies.toldBy (m ++ t) x ≡ replies.toldBy m x
+      go (judging.refused r) e = refl
+      go (judging.accepted q) e = reply-form-tail q (reply-order.accepted-inside (u .profile) m (u .limit) (u .terms) q e)
 
 reply-roomy : (x : Terms) (room : ℕ) (l : ℕ → List Sighting) (val : Sighting → List ℕ) (q : replies.Form Sighting) → ((k : ℕ) → length (l k) ≤ room)
     → replies.decide x val l ≡ yes q → replies.decide (roomFor room) val l ≡ yes q
@@ -191,7 +216,7 @@ reply-local = record {
   decides = λ u l m t i. reply-tail m t (u .terms) l i;
   tells = λ m t u. reply-told m t u;
   shows = λ m t u q e. reply-shown m t u q e;
-  ends = λ e z. zero-ends replies.act replies.once reply-goes e z;
+  ends = λ P e z met. zero-halts replies.act replies.once reply-goes P e z met;
   refuses = λ m m′ r. refl;
-  roomy = λ n x room l val q few e. reply-roomy x room l val q few e;
+  roomy = λ P n x room l val q few e. reply-roomy x room l val q few e;
 }

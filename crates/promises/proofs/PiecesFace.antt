@@ -1,10 +1,10 @@
--- 02, order 1, for the calls that a host links: a read that is fed in pieces answers alike however its bytes are cut, and demand 3 holds for the joined bytes. The statements are
+-- 02, order 1, in every profile (order 5), for the calls that a host links: a read that is fed in pieces answers alike however its bytes are cut, and demand 3 holds for the joined bytes. The statements are
 -- specs/Pieces.antt and specs/FedCells.antt, over the functions' own contracts, for calls of both functions on one line.
 -- Assumes nothing.
 use mathlib.Core.Path.{_≡_, refl, sym, ap, subst, _∙_}
 use mathlib.Core.List.{List, [], _∷_}
 use mathlib.Core.Bool.{Bool, true, false, cond, true≢false}
-use Prim.Native.Nat.{ℕ, _≤_}
+use Prim.Native.Nat.{ℕ, _≤_, _<_}
 use native.Mathlib.Omega.{arith}
 use lib.ListN.{length}
 use denote.Ref.{now}
@@ -14,7 +14,12 @@ use Rattle.utf8.proofs.Tests as test
 use Rattle.wire.specs.Bytes.{numberAt}
 use Rattle.wire.proofs.Bytes.{Small}
 use Rattle.nts.specs.Refusal.{nothing, Refused}
+use Rattle.layout.specs.Profile.{shapeIn}
+use Rattle.layout.specs.declared.Profile.{Profile}
+use Rattle.layout.specs.declared.Profile.the-variants.{Usual, Strict}
 use Rattle.walk.specs.Walk.{Sighting}
+use Rattle.walk.specs.Shown.{slotOf}
+use Rattle.walk.proofs.Looking.{slot-below}
 use Rattle.walk.specs.Judge as judge
 use Rattle.walk.specs.Judge.{Terms, Under, bodyIn, partOf, readBy}
 use Rattle.walk.specs.Message.{contents}
@@ -39,7 +44,8 @@ use Rattle.pieces.specs.Pieces.{Line, started, Brought, Read, Fed, none, answer
 use Rattle.pieces.specs.Reads.{requestRead, replyRead}
 use Rattle.feeding.specs.Fed.{lineCells, isConnection, lineIn, fedWord, fedCells, saysIn, Feeds}
 use Rattle.feeding.proofs.ntske_connection_new.Reads as connection-new
-use Rattle.feeding.proofs.Answering.{Seventeenth, Host, host-request, host-reply, word-waits, line-unmoved, buffer-unmoved, table-unmoved}
+use Rattle.feeding.proofs.ntske_connection_new_strict.Reads as connection-new-strict
+use Rattle.feeding.proofs.Answering.{Eighteenth, barred-eighteenth, Host, host-request, host-reply, word-waits, line-unmoved, buffer-unmoved, table-unmoved}
 use Rattle.promises.specs.Handed as hand
 use Rattle.promises.specs.HandedReply as hand-reply
 use Rattle.promises.specs.Cells.{requestInHand, replyInHand}
@@ -55,13 +61,14 @@ use Rattle.promises.proofs.Locals.{request-local, reply-local}
 use Rattle.promises.proofs.Joined.{Handing, joined-answering}
 use Rattle.promises.proofs.Spoken.{request-speech, reply-speech}
 use Rattle.promises.proofs.HostedRequest.{flag-back}
-use Rattle.promises.proofs.FedLines.{Plain, refusal-back, line-holds, line-forth, started-plain, Numbering, after-plain, unheld-answer, unheld-quiet, answer-plain}
+use Rattle.promises.proofs.FedLines.{Plain, refusal-back, line-holds, line-forth, started-plain, Numbering, Slots, after-plain, unheld-answer, unheld-quiet, answer-plain}
 
 -- ---- what is asked of a sort of read: f gives cells for what is told, and `tells` reads them back
 
 record Faced (X : Read) (f : X .Told → Given) (tells : List ℕ → X .Told) (refusing : Refused → X .Told) : Type 0 where
   pub host : Host X f
   pub numbering : Numbering X
+  pub slots : Slots X
   pub refused-is : (m : List ℕ) (y : Refused) → X .tells m (judge.refused y) ≡ refusing y
   pub back : (m lent : List ℕ) (q : X .judging .Q Sighting) → tells (given.held (f (X .tells m (judge.accepted q))) lent) ≡ X .tells m (judge.accepted q)
   pub apart : (c : List ℕ) (y : Refused) → tells c ≡ refusing y → ⊥
@@ -105,7 +112,7 @@ module _ {X : Read} {f : X .Told → Given} {tells : List ℕ → X .Told} {refu
     by-held : isConnection c ≡ true → Means (lineIn c) b h u t lent r (connectionIn c′) b′ t′ after
     by-held i = record {
       word = rw i at (p .word);
-      line = ap connectionIn (rw i at (p .connection)) ∙ line-forth (lineAfter X (lineIn c) b h u) (after-plain X (P .numbering) c b h u sb sp i);
+      line = ap connectionIn (rw i at (p .connection)) ∙ line-forth (lineAfter X (lineIn c) b h u) (after-plain X (P .numbering) (P .slots) c b h u sb sp i);
       buffer = rw i at (p .buffer);
       table = rw i at (p .table);
       answer = rw i at (p .answer);
@@ -136,7 +143,7 @@ module _ {X : Read} {f : X .Told → Given} {tells : List ℕ → X .Told} {refu
     said-is : saidIn tells refusing r after ≡ saysIn X l b h u
     said-is =
         (λ j. saidIn tells refusing (means .word j) (means .answer j))
-        ∙ said-back (held (lineAfter X l b h u) (bufferAfter X l b h)) lent (answerOf X l b h u) (answer-plain X (P .numbering) c b h u sb sp)
+        ∙ said-back (held (lineAfter X l b h u) (bufferAfter X l b h)) lent (answerOf X l b h u) (answer-plain X (P .numbering) (P .slots) c b h u sb sp)
 
     fed-said : saidIn tells refusing r after ≡ saysOf X (held (connectionIn c′) b′) (answerOf X l b h u)
     fed-said = said-is ∙ sym (λ j. saysOf X (held (means .line j) (means .buffer j)) (answerOf X l b h u))
@@ -151,7 +158,7 @@ module _ {X : Read} {f : X .Told → Given} {tells : List ℕ → X .Told} {refu
     fed-holds : isConnection c ≡ true → Holds c′
     fed-holds i =
         let e : c′ ≡ lineCells (lineAfter X (lineIn c) b h u) = rw i at (p .connection) in
-        (ap isConnection e ∙ line-holds (lineAfter X (lineIn c) b h u) (after-plain X (P .numbering) c b h u sb sp i), e ∙ ap lineCells (sym (by-held i .line)))
+        (ap isConnection e ∙ line-holds (lineAfter X (lineIn c) b h u) (after-plain X (P .numbering) (P .slots) c b h u sb sp i), e ∙ ap lineCells (sym (by-held i .line)))
 
   -- ---- functions whose calls meet the contract
 
@@ -179,14 +186,14 @@ module _ {X : Read} {f : X .Told → Given} {tells : List ℕ → X .Told} {refu
 
     -- ---- on one line
 
-    online : (n : ℕ) (b : List ℕ) (xs : List C) → n ≤ 65535 → OnCells n b (hostCalls of xs) → OnLine n b (madeBy F xs)
-    online n b [] l o = tt
-    online n b (x ∷ []) l o = (ap connectionIn (o .0) ∙ line-forth (started n) (started-plain n l), o .1, tt)
-    online n b (x ∷ y ∷ xs) l o = (ap connectionIn (o .0), o .1, online n b (y ∷ xs) l (o .2))
+    online : (Q : Profile) (n : ℕ) (b : List ℕ) (xs : List C) → n ≤ 65535 → OnCells Q n b (hostCalls of xs) → OnLine Q n b (madeBy F xs)
+    online Q n b [] l o = tt
+    online Q n b (x ∷ []) l o = (ap connectionIn (o .0) ∙ line-forth (started Q n) (started-plain Q n l), o .1, tt)
+    online Q n b (x ∷ y ∷ xs) l o = (ap connectionIn (o .0), o .1, online Q n b (y ∷ xs) l (o .2))
 
-    holds : (n : ℕ) (b : List ℕ) (xs : List C) → n ≤ 65535 → OnCells n b (hostCalls of xs) → Holds (cellsIn n (hostCalls of xs))
-    holds n b [] l o = (line-holds (started n) (started-plain n l), ap lineCells (sym (line-forth (started n) (started-plain n l))))
-    holds n b (x ∷ xs) l o = let k = met x in fed-holds (k .0) (k .1) (k .2) (ap isConnection (o .0) ∙ holds n b xs l (o .2) .0)
+    holds : (Q : Profile) (n : ℕ) (b : List ℕ) (xs : List C) → n ≤ 65535 → OnCells Q n b (hostCalls of xs) → Holds (cellsIn Q n (hostCalls of xs))
+    holds Q n b [] l o = (line-holds (started Q n) (started-plain Q n l), ap lineCells (sym (line-forth (started Q n) (started-plain Q n l))))
+    holds Q n b (x ∷ xs) l o = let k = met x in fed-holds (k .0) (k .1) (k .2) (ap isConnection (o .0) ∙ holds Q n b xs l (o .2) .0)
 
     cut-by-host : Local X → CutByHost F of f
     cut-by-host L = record { online = online; cut = however-cut X L F meets; holds = holds; word = word-is; answer = answer-is }
@@ -219,8 +226,15 @@ module _ {X : Read} {f : X .Told → Given} {tells : List ℕ → X .Told} {refu
 
 -- ---- a line's first cells
 
-pub ntske-connection-new-starts : (κs : _) (a : _) (r : _) (e : _) → connection-new.Learnt κs a r e → (r ≡ 0) × (now (e .1 .0) ≡ cellsIn (a .0) [])
+pub ntske-connection-new-starts : (κs : _) (a : _) (r : _) (e : _) → connection-new.Learnt κs a r e → (r ≡ 0) × (now (e .1 .0) ≡ cellsIn Usual (a .0) [])
 ntske-connection-new-starts κs a r e p = (p .says, p .left)
+
+pub ntske-connection-new-strict-starts : (κs : _) (a : _) (r : _) (e : _) → connection-new-strict.Learnt κs a r e → (r ≡ 0) × (now (e .1 .0) ≡ cellsIn Strict (a .0) [])
+ntske-connection-new-strict-starts κs a r e p = (p .says, p .left)
+
+-- fifteen kinds are told apart, in every profile
+slots-in : (Q : Profile) (k j : ℕ) → j ≡ slotOf (shapeIn Q) k → j < 16
+slots-in Q k j e = omega (arith, slot-below (record { profile = Q; entries = [] }) j k e)
 
 -- ---- requests
 
@@ -247,7 +261,8 @@ request-face : Faced requestRead requestGiven requestTold requests.refusedWith
 unfolding requests.request
 request-face = record {
   host = host-request;
-  numbering = λ s n x y e. request-numbered Seventeenth (omega arith) s n (x .room) y (sym (request-order.room-alone s (record { limit = n; terms = x })) ∙ e);
+  numbering = λ Q s n x y e. request-numbered Eighteenth (omega arith) Q (barred-eighteenth Q) s n (x .room) y (sym (request-order.room-alone s (record { profile = Q; limit = n; terms = x })) ∙ e);
+  slots = λ Q k. slots-in Q k _ refl;
   refused-is = λ m y. refl;
   back = request-back;
   apart = request-apart;
@@ -291,7 +306,8 @@ reply-face : Faced replyRead replyGiven replyTold replies.refusedWith
 unfolding replies.replyOf
 reply-face = record {
   host = host-reply;
-  numbering = λ s n x y e. reply-numbered Seventeenth (omega arith) s n x y e;
+  numbering = λ Q s n x y e. reply-numbered Eighteenth (omega arith) Q (barred-eighteenth Q) s n x y e;
+  slots = λ Q k. slots-in Q k _ refl;
   refused-is = λ m y. refl;
   back = reply-back;
   apart = reply-apart;

@@ -15,6 +15,7 @@ use Rattle.nts.specs.declared.Refusal.{Refusal}
 use Rattle.layout.specs.Write.{Count, bytes, refused, toldCount, leftBy, Wrote}
 use Rattle.layout.specs.declared.ByteCount.{ByteCount}
 use Rattle.layout.specs.declared.ByteCount.the-variants as count
+use Rattle.layout.specs.declared.Profile.{Profile}
 use Rattle.walk.specs.Walk.{Outcome, stopped, ended}
 use Rattle.walk.specs.Judge as judge
 use Rattle.walk.specs.Found.{wayRefused, wayOf}
@@ -116,12 +117,12 @@ module _ (l : List ℕ) where
       (e, only (numberOf (y .error)) (ap ofAnswer e))
 
   -- .. and with the table
-  pub reply-refuses : {m : List ℕ} {n : ℕ} {ps qs table table′ : List ℕ} {r : reply-answers.Answer}
-      → Only l (ofAnswer (replies.replyOf m n (replies.offering ps qs (roomOf table)))) → replies.Reads m n ps qs table r table′
+  pub reply-refuses : {P : Profile} {m : List ℕ} {n : ℕ} {ps qs table table′ : List ℕ} {r : reply-answers.Answer}
+      → Only l (ofAnswer (replies.replyOf P m n (replies.offering ps qs (roomOf table)))) → replies.Reads P m n ps qs table r table′
       → (y : Refusal) → r ≡ reply-answer.Refused y → (table′ ≡ table) × In (numberOf (y .error)) l
   unfolding replies.tableAfter
-  reply-refuses {m} {n} {ps} {qs} {table} only p y h =
-      let e = reply-answer-refuses m (replies.replyOf m n (replies.offering ps qs (roomOf table))) only (p .says) y h in
+  reply-refuses {P} {m} {n} {ps} {qs} {table} only p y h =
+      let e = reply-answer-refuses m (replies.replyOf P m n (replies.offering ps qs (roomOf table))) only (p .says) y h in
       (p .left ∙ ap (λ (o : judge.Answer replies.Form). over (cells (replies.cookiesOf o)) table) (e .0) ∙ over-none table, e .1)
 
 -- ---- the calls that a host links: one word, of which the number is the remainder by 256

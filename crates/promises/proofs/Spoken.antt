@@ -55,7 +55,7 @@ request-speech = record {
   refusing-one = λ r r′ e. cc;
   apart = λ y r e. let z : _≡_ {A = ℕ} 0 1 = handing.told-not y r e in omega arith;
   accepted-apart = λ m q r e. let z : _≡_ {A = ℕ} 0 1 = handing.form-not m q r e in omega arith;
-  shown = λ m table filled y u q w e f. handing.shown m table filled y q (request-order.accepted-inside m (u .limit) (u .terms .room) q (sym (request-order.room-alone m u) ∙ w)) e f;
+  shown = λ m table filled y u q w e f. handing.shown m table filled y q (request-order.accepted-inside (u .profile) m (u .limit) (u .terms .room) q (sym (request-order.room-alone m u) ∙ w)) e f;
   kept = λ r table. over-none table;
 }
 
@@ -69,7 +69,7 @@ reply-speech = record {
   refusing-one = λ r r′ e. cc;
   apart = λ y r e. let z : _≡_ {A = ℕ} 0 1 = cc in omega arith;
   accepted-apart = λ m q r e. reply-form-not m q r e;
-  shown = λ m table filled y u q w e f. handing-reply.shown m table filled y q (reply-order.accepted-inside m (u .limit) (u .terms) q w) e f;
+  shown = λ m table filled y u q w e f. handing-reply.shown m table filled y q (reply-order.accepted-inside (u .profile) m (u .limit) (u .terms) q w) e f;
   kept = λ r table. over-none table;
 }
 

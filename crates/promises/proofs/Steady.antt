@@ -11,8 +11,9 @@ use Rattle.walk.specs.Walk.{Sighting}
 use Rattle.walk.specs.Judge.{Under, Answer, refused, accepted}
 use Rattle.record.specs.Record.{kind}
 use Rattle.walk.specs.Message.{Whole, Record, End, Each, flat, message, Parts}
-use Rattle.walk.specs.Table.{known}
-use Rattle.walk.proofs.Known.{zero-known}
+use Rattle.layout.specs.Profile.{knows}
+use Rattle.layout.specs.declared.Profile.{Profile}
+use Rattle.layout.proofs.Profiles.{zero-known}
 use Rattle.walk.proofs.Demand3.{Showing, Ordered}
 use Rattle.promises.specs.Demand3.{Reader, Likewise, Steady, Demand3, Question, defined}
 
@@ -29,8 +30,8 @@ each-more P [] ys u h p = (p, h)
 each-more P (x ∷ xs) ys u h p = (h .0, each-more P xs ys u (h .1) p)
 
 -- an unknown record does not end a message
-unknown-record : (u : List ℕ) → Whole u → known (kind u) ≡ false → Record u
-unknown-record u w k = (w, λ z. true≢false (sym zero-known ∙ ap known (sym z) ∙ k))
+unknown-record : (X : Profile) (u : List ℕ) → Whole u → knows X (kind u) ≡ false → Record u
+unknown-record X u w k = (w, λ z. true≢false (sym (zero-known X) ∙ ap (knows X) (sym z) ∙ k))
 
 -- the form Q of what the definition accepts, and what is shown of that
 module _ {Q : Type 0 → Type 0} (reading : List ℕ → Under → Answer Q) (shows : List ℕ → Q Sighting → Q (List ℕ)) where
@@ -41,8 +42,8 @@ module _ {Q : Type 0 → Type 0} (reading : List ℕ → Under → Answer Q) (sh
     D = defined reading shows
 
     -- what is shown of a message is shown of a call that was asked likewise
-    asked-likewise : (c d : Question) (cs : List (List ℕ)) (e t : List ℕ) (x : Q (List ℕ)) → Likewise D c d cs e t → Showing reading shows (message cs e t) (c .under) x → D .Accepts d x
-    asked-likewise c d cs e t x l h = rw (l .asked, l .under) h
+    asked-likewise : (c d : Question) (cs : List (List ℕ)) (e t₀ t : List ℕ) (x : Q (List ℕ)) → Likewise D c d cs e t₀ t → Showing reading shows (message cs e t) (c .under) x → D .Accepts d x
+    asked-likewise c d cs e t₀ t x l h = rw (l .asked, l .under) h
 
     module _ (c : Question) (x : Q (List ℕ)) (h : D .Accepts c x) (p : Parts Record End (c .message) (c .under .limit)) where
       again : reading (message (p .front) (p .last) (p .tail)) (c .under) ≡ accepted (h .0)
@@ -65,11 +66,11 @@ module _ {Q : Type 0 → Type 0} (reading : List ℕ → Under → Answer Q) (sh
       steady-by : Steady D c x p
       steady-by = record {
         reordered = λ cs t d l perm names cookies.
-            let s = L .reordered (c .under) (p .front) cs (p .last) (p .tail) t (h .0) (p .each) (p .ends) perm names cookies again in
-            asked-likewise c d cs (p .last) t x l (s .0, s .1, s .2 ∙ shown-again);
+            let s = L .reordered (c .under) (p .front) cs (p .last) (p .tail) t (h .0) (p .each) (p .ends) perm (l .tail) names cookies again in
+            asked-likewise c d cs (p .last) (p .tail) t x l (s .0, s .1, s .2 ∙ shown-again);
         inserted = λ xs ys u t d l f w k fits b.
-            let s = L .inserted (c .under) xs ys u (p .last) (p .tail) t (h .0) (in-two xs ys f) (p .ends) w k b fits (again-in-two xs ys f) in
-            asked-likewise c d (xs ++ (u ∷ ys)) (p .last) t x l (s .0, s .1, s .2 ∙ shown-in-two xs ys f);
+            let s = L .inserted (c .under) xs ys u (p .last) (p .tail) t (h .0) (in-two xs ys f) (p .ends) (l .tail) w k b fits (again-in-two xs ys f) in
+            asked-likewise c d (xs ++ (u ∷ ys)) (p .last) (p .tail) t x l (s .0, s .1, s .2 ∙ shown-in-two xs ys f);
         inserted-critical = λ xs ys u t d l f w k fits b.
             let s = L .inserted-critical (c .under) xs ys u (p .last) (p .tail) t (h .0) (in-two xs ys f) (p .ends) w k b fits (again-in-two xs ys f) in
             rw (l .asked, l .under) s;
@@ -114,11 +115,11 @@ module _ {Q : Type 0 → Type 0} (reading : List ℕ → Under → Answer Q) (sh
     abbrev question : R .Call → Question
     question c = record { message = R .asked c; under = R .under c }
 
-    likewise : (c d : R .Call) (cs : List (List ℕ)) (e t : List ℕ) → Likewise R c d cs e t → Likewise (defined reading shows) (question c) (question d) cs e t
-    likewise c d cs e t l = record { asked = l .asked; under = l .under; holds = tt }
+    likewise : (c d : R .Call) (cs : List (List ℕ)) (e t₀ t : List ℕ) → Likewise R c d cs e t₀ t → Likewise (defined reading shows) (question c) (question d) cs e t₀ t
+    likewise c d cs e t₀ t l = record { asked = l .asked; tail = l .tail; under = l .under; holds = tt }
 
-    able : (c d : R .Call) (cs : List (List ℕ)) (e t : List ℕ) → Likewise R c d cs e t → Each Record cs → End e → Able R d
-    able c d cs e t l i h = record { front = cs; last = e; tail = t; asked = l .asked; each = i; ends = h; holds = l .holds }
+    able : (c d : R .Call) (cs : List (List ℕ)) (e t₀ t : List ℕ) → Likewise R c d cs e t₀ t → Each Record cs → End e → Able R d
+    able c d cs e t₀ t l i h = record { front = cs; last = e; tail = t; asked = l .asked; each = i; ends = h; holds = l .holds }
 
     shown : (d : R .Call) → Able R d → (x : Q (List ℕ)) (s : S) → inHand x ≡ s → Showing reading shows (R .asked d) (R .under d) x → R .Accepts d s
     shown d a x s e h = subst (R .Accepts d) (ap inHand (h .2) ∙ e) (F .accepts d a (h .0) (h .1))
@@ -135,21 +136,21 @@ module _ {Q : Type 0 → Type 0} (reading : List ℕ → Under → Answer Q) (sh
 
       module _ (p : Parts Record End (R .asked c) (R .under c .limit)) where
         -- with a record more, of unknown kind
-        able-more : (xs ys : List (List ℕ)) (u t : List ℕ) (d : R .Call) → Likewise R c d (xs ++ (u ∷ ys)) (p .last) t → p .front ≡ xs ++ ys → Whole u → known (kind u) ≡ false → Able R d
+        able-more : (xs ys : List (List ℕ)) (u t : List ℕ) (d : R .Call) → Likewise R c d (xs ++ (u ∷ ys)) (p .last) (p .tail) t → p .front ≡ xs ++ ys → Whole u → knows (R .under c .profile) (kind u) ≡ false → Able R d
         able-more xs ys u t d l f w k =
-            able c d (xs ++ (u ∷ ys)) (p .last) t l (each-more Record xs ys u (subst (Each Record) f (p .each)) (unknown-record u w k)) (p .ends)
+            able c d (xs ++ (u ∷ ys)) (p .last) (p .tail) t l (each-more Record xs ys u (subst (Each Record) f (p .each)) (unknown-record (R .under c .profile) u w k)) (p .ends)
 
         carried-steady : Steady R c s p
         carried-steady =
             let i = T .steady (question c) x accepts-so p in
             record {
               reordered = λ cs t d l perm names cookies.
-                  shown d (able c d cs (p .last) t l (each-perm Record perm (p .each)) (p .ends)) x s (by .2)
-                  (i .reordered cs t (question d) (likewise c d cs (p .last) t l) perm names cookies);
+                  shown d (able c d cs (p .last) (p .tail) t l (each-perm Record perm (p .each)) (p .ends)) x s (by .2)
+                  (i .reordered cs t (question d) (likewise c d cs (p .last) (p .tail) t l) perm names cookies);
               inserted = λ xs ys u t d l f w k fits b.
-                  shown d (able-more xs ys u t d l f w k) x s (by .2) (i .inserted xs ys u t (question d) (likewise c d (xs ++ (u ∷ ys)) (p .last) t l) f w k fits b);
+                  shown d (able-more xs ys u t d l f w k) x s (by .2) (i .inserted xs ys u t (question d) (likewise c d (xs ++ (u ∷ ys)) (p .last) (p .tail) t l) f w k fits b);
               inserted-critical = λ xs ys u t d l f w k fits b.
-                  F .refuses d (able-more xs ys u t d l f w k) _ (i .inserted-critical xs ys u t (question d) (likewise c d (xs ++ (u ∷ ys)) (p .last) t l) f w k fits b);
+                  F .refuses d (able-more xs ys u t d l f w k) _ (i .inserted-critical xs ys u t (question d) (likewise c d (xs ++ (u ∷ ys)) (p .last) (p .tail) t l) f w k fits b);
             }
 
     pub by-calls : Demand3 R

@@ -8,6 +8,8 @@ use lib.ListN.{length}
 use Rattle.nts.specs.Refusal.{Refused}
 use Rattle.nts.specs.Algorithm.{describe}
 use Rattle.layout.specs.Write.{Count, bytes, refused, fitted}
+use Rattle.layout.specs.declared.Profile.{Profile}
+use Rattle.layout.specs.declared.Profile.the-variants.{Usual, Strict}
 use Rattle.record.specs.Record.{Told, read, readAt}
 use Rattle.record.specs.Record as rec
 use Rattle.walk.specs.Judge as judge
@@ -71,8 +73,17 @@ of-appended (plan.refusedWith k b) = refl
 
 -- ---- the readers
 
-pub request-tells : (m : List ℕ) (n room : ℕ) → Tells requestNumbers (requestGiven (requests.toldBy m (request m n room)))
-request-tells m n room = tells (omega arith) (of-request m (request m n room)) (request-exactly .only (record { message = m; limit = n; room = room }))
+-- of each profile's numbers
+request-table : (P : Profile) → All Table (requestNumbers P)
+request-table Usual = omega arith
+request-table Strict = omega arith
+
+reply-table : (P : Profile) → All Table (replyNumbers P)
+reply-table Usual = omega arith
+reply-table Strict = omega arith
+
+pub request-tells : (P : Profile) (m : List ℕ) (n room : ℕ) → Tells (requestNumbers P) (requestGiven (requests.toldBy m (request P m n room)))
+request-tells P m n room = tells (request-table P) (of-request m (request P m n room)) (request-exactly P .only (record { message = m; limit = n; room = room }))
 
 pub decide-tells : (f : Found) (m : List ℕ) (room : ℕ) → Tells decideNumbers (requestGiven (requests.toldBy m (requests.decided f m room)))
 decide-tells f m room = tells (omega arith) (of-request m (requests.decided f m room)) (decide-exactly .only (record { found = f; message = m; room = room }))
@@ -84,8 +95,8 @@ request-given m (judge.accepted (requests.keyExchange p a d)) y e = let z : _≡
 request-given m (judge.accepted (requests.fixedKey u x a p k)) y e = let z : _≡_ {A = ℕ} 0 1 = cc in absurd (omega arith)
 request-given m (judge.accepted (requests.support u p a k)) y e = let z : _≡_ {A = ℕ} 0 1 = cc in absurd (omega arith)
 
-pub reply-tells : (m : List ℕ) (n : ℕ) (x : Terms) → Tells replyNumbers (replyGiven (replies.toldBy m (replyOf m n x)))
-reply-tells m n x = tells (omega arith) (of-reply m (replyOf m n x)) (reply-exactly .only (record { message = m; limit = n; terms = x }))
+pub reply-tells : (P : Profile) (m : List ℕ) (n : ℕ) (x : Terms) → Tells (replyNumbers P) (replyGiven (replies.toldBy m (replyOf P m n x)))
+reply-tells P m n x = tells (reply-table P) (of-reply m (replyOf P m n x)) (reply-exactly P .only (record { message = m; limit = n; terms = x }))
 
 pub record-tells : (m : List ℕ) (at : ℕ) → Tells recordNumbers (recordGiven (readAt m at))
 record-tells m at = tells (omega arith) (of-record (readAt m at)) (record-exactly .only (m, at))

@@ -1,4 +1,4 @@
--- The calls that feed a read for a host, as the host sees them: it keeps the connection as eight cells, hands pieces to one function and tells the close to another, in any
+-- The calls that feed a read for a host, as the host sees them: it keeps the connection as nine cells, hands pieces to one function and tells the close to another, in any
 -- order on one line. Each call with what the function's own contract says of it, as the prover reads it from the source; and what Pieces.antt says of a read fed in pieces,
 -- said of the host's own cells and words. proofs/PiecesFace.antt proves it, for requests and for replies.
 use Prim.Native.Nat.{ℕ, _/_, _%_, _≤_, _<_}
@@ -11,6 +11,8 @@ use denote.Ref.{now}
 use Rattle.nts.specs.Refusal.{Refused}
 use Rattle.walk.specs.Judge.{Terms, roomFor}
 use Rattle.layout.specs.declared.Part.{Part}
+use Rattle.layout.specs.declared.Profile.{Profile}
+use Rattle.layout.specs.declared.Profile.the-variants.{Usual}
 use Rattle.places.specs.Places.{roomOf}
 use Rattle.request.specs.Request as requests
 use Rattle.reply.specs.Reply as replies
@@ -48,7 +50,7 @@ pub record HostCall : Type 0 where
 
 -- a connection that counts a byte more than its limit
 abbrev pub unheld : Line
-unheld = record { limit = 0; gathered = 1; begins = 0; met = 0; standing = pending }
+unheld = record { profile = Usual; limit = 0; gathered = 1; begins = 0; met = 0; standing = pending }
 
 -- the connection that cells hold; cells that hold none count as that one: either is 9, and changes nothing
 abbrev pub connectionIn : List ℕ → Line
@@ -194,19 +196,19 @@ abbrev pub hostCalls : {C : Type 1} → (C → HostCall) → List C → List Hos
 hostCalls of [] = []
 hostCalls of (x ∷ xs) = of x ∷ hostCalls of xs
 
--- after ntske_connection_new under the limit n, with the buffer b
-abbrev pub cellsIn : ℕ → List HostCall → List ℕ
-cellsIn n [] = lineCells (started n)
-cellsIn n (x ∷ xs) = x .left .connection
+-- after ntske_connection_new, or in the strict profile ntske_connection_new_strict, under the limit n, with the buffer b
+abbrev pub cellsIn : Profile → ℕ → List HostCall → List ℕ
+cellsIn P n [] = lineCells (started P n)
+cellsIn P n (x ∷ xs) = x .left .connection
 
 abbrev pub bufferIn : List ℕ → List HostCall → List ℕ
 bufferIn b [] = b
 bufferIn b (x ∷ xs) = x .left .buffer
 
 -- "The handler returns record and buffer as it got them", the record as cells; table, offered lists and answer's cells may be others each time
-abbrev pub OnCells : ℕ → List ℕ → List HostCall → Type 0
-OnCells n b [] = Unit {0}
-OnCells n b (x ∷ xs) = (x .lent .connection ≡ cellsIn n xs) × (x .lent .buffer ≡ bufferIn b xs) × OnCells n b xs
+abbrev pub OnCells : Profile → ℕ → List ℕ → List HostCall → Type 0
+OnCells P n b [] = Unit {0}
+OnCells P n b (x ∷ xs) = (x .lent .connection ≡ cellsIn P n xs) × (x .lent .buffer ≡ bufferIn b xs) × OnCells P n b xs
 
 -- a connection, whose cells they are
 abbrev pub Holds : List ℕ → Type 0
@@ -217,10 +219,10 @@ Holds c = (isConnection c ≡ true) × (c ≡ lineCells (connectionIn c))
 -- `of` tells what the host lent and got, and f gives the cells of what is told; n ≤ 65535 is what the type u16 says of a limit
 pub record CutByHost {X : Read} {S : Type 0} (F : Feeder X S) (of : F .Call → HostCall) (f : X .Told → Given) : Type 1 where
   -- such calls are on one line, so Pieces.antt says of them what is answered and left ..
-  pub online : (n : ℕ) (b : List ℕ) (xs : List (F .Call)) → n ≤ 65535 → OnCells n b (hostCalls of xs) → OnLine n b (madeBy F xs)
+  pub online : (P : Profile) (n : ℕ) (b : List ℕ) (xs : List (F .Call)) → n ≤ 65535 → OnCells P n b (hostCalls of xs) → OnLine P n b (madeBy F xs)
   pub cut : HoweverCut F
   -- .. and their cells always hold a connection, and are the cells of just that one
-  pub holds : (n : ℕ) (b : List ℕ) (xs : List (F .Call)) → n ≤ 65535 → OnCells n b (hostCalls of xs) → Holds (cellsIn n (hostCalls of xs))
+  pub holds : (P : Profile) (n : ℕ) (b : List ℕ) (xs : List (F .Call)) → n ≤ 65535 → OnCells P n b (hostCalls of xs) → Holds (cellsIn P n (hostCalls of xs))
   -- the word is 65,535 while nothing is said, 0 where what is said is accepted, and otherwise the refusal's; and the answer's cells are those of what is accepted, or as they
   -- were lent
   pub word : (c : F .Call) → of c .word ≡ fedWord f (F .made c .said)

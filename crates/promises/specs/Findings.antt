@@ -7,7 +7,8 @@ use mathlib.Core.Bool.{Bool, cond, not}
 use lib.ListN.{getD}
 use lib.Dec.{eqb}
 use denote.Ref.{now}
-use Rattle.walk.specs.Table.{known}
+use Rattle.layout.specs.Profile.{knows}
+use Rattle.layout.specs.declared.Profile.the-variants.{Usual}
 use Rattle.walk.specs.Shown.{Mark}
 use Rattle.walk.specs.declared.Finding.{Finding}
 use Rattle.request.specs.declared.Answer as request-answer
@@ -40,10 +41,10 @@ pub record Pair : Type 1 where
   pub handed : decided .a .0 ≡ walked .finding
   pub message : now (decided .a .1 .0) ≡ now (walked .a .0)
 
--- .. as a reader: it is asked with the message, the first call's limit and the second call's table
+-- .. as a reader: in the usual profile, it is asked with the message, the first call's limit and the second call's table
 abbrev pub request-pair : Reader requests.Shown
 request-pair =
-    answering Pair (λ c. now (c .decided .a .1 .0)) (λ c. c .walked .a .1 .0) (λ c. now (c .decided .a .1 .1 .0)) (λ c. c .decided .answer) (λ c. now (c .decided .e .1 .1 .0))
+    answering Pair (λ c. Usual) (λ c. now (c .decided .a .1 .0)) (λ c. c .walked .a .1 .0) (λ c. now (c .decided .a .1 .1 .0)) (λ c. c .decided .answer) (λ c. now (c .decided .e .1 .1 .0))
 
 -- ---- the lines of the listing, by type
 
@@ -57,7 +58,7 @@ abbrev pub isOf : ℕ → Mark → Bool
 isOf k x = eqb (x .kind) k
 
 abbrev pub isOther : Mark → Bool
-isOther x = not (known (x .kind))
+isOther x = not (knows Usual (x .kind))
 
 -- the count of a kind among a finding's cells
 abbrev pub countAt : List ℕ → ℕ → ℕ

@@ -11,3 +11,4 @@ pub mod Fed
 pub mod FedCells
 pub mod Findings
 pub mod FindingsFace
+pub mod Strictness

@@ -6,6 +6,8 @@ use mathlib.Core.List.{List, [], _∷_}
 use mathlib.Core.Bool.{true, cond}
 use lib.Dec.{eqb}
 use Rattle.layout.specs.Write as write
+use Rattle.layout.specs.declared.Profile.{Profile}
+use Rattle.layout.specs.declared.Profile.the-variants.{Usual, Strict}
 use Rattle.record.specs.Record as rec
 use Rattle.walk.specs.Walk as walk
 use Rattle.walk.specs.Judge as judge
@@ -25,9 +27,9 @@ use Rattle.cells.specs.Cells as cells
 
 -- ---- exactly these numbers
 
--- a number of the table, or of 02, orders 1 and 3
+-- a number of the table, or of 02, orders 1, 3 and 5
 abbrev pub Table : ℕ → Type 0
-Table n = (1 ≤ n) × (n ≤ 17)
+Table n = (1 ≤ n) × (n ≤ 18)
 
 -- n is one of them
 abbrev pub In : ℕ → List ℕ → Type 0
@@ -108,13 +110,19 @@ ofGiven (cells.refuses r) = bears (r .number)
 abbrev pub recordNumbers : List ℕ
 recordNumbers = 1 ∷ 2 ∷ []
 
--- a walk by any table: these, "unknown is 3 with its bit set", "is 4", and "error or warning in a reply"
-abbrev pub walkNumbers : List ℕ
-walkNumbers = 1 ∷ 2 ∷ 3 ∷ 4 ∷ 11 ∷ 12 ∷ []
+-- 02, order 5: 18, in the strict profile alone
+abbrev pub orNotAllowed : Profile → List ℕ → List ℕ
+orNotAllowed Usual l = l
+orNotAllowed Strict l = 18 ∷ l
 
--- "From records to a request"
-abbrev pub requestNumbers : List ℕ
-requestNumbers = 1 ∷ 2 ∷ 3 ∷ 4 ∷ 5 ∷ 6 ∷ 7 ∷ []
+-- a walk by any table: these, "unknown is 3 with its bit set", "is 4", and "error or warning in a reply"
+abbrev pub walkNumbers : Profile → List ℕ
+walkNumbers P = orNotAllowed P (1 ∷ 2 ∷ 3 ∷ 4 ∷ 11 ∷ 12 ∷ [])
+
+-- "From records to a request"; a strict one has no keys and no denied names
+abbrev pub requestNumbers : Profile → List ℕ
+requestNumbers Usual = 1 ∷ 2 ∷ 3 ∷ 4 ∷ 5 ∷ 6 ∷ 7 ∷ []
+requestNumbers Strict = 18 ∷ 1 ∷ 2 ∷ 3 ∷ 4 ∷ []
 
 -- its walk alone: "in record order"; 02, order 2: why it stopped
 abbrev pub stopNumbers : List ℕ
@@ -125,20 +133,20 @@ abbrev pub decideNumbers : List ℕ
 decideNumbers = 9 ∷ 1 ∷ 2 ∷ 3 ∷ 4 ∷ 5 ∷ 6 ∷ 7 ∷ []
 
 -- "The reply reader goes in record order", and 02, order 3: 17 "for a protocol and then for an algorithm not offered"
-abbrev pub replyNumbers : List ℕ
-replyNumbers = 1 ∷ 2 ∷ 3 ∷ 4 ∷ 7 ∷ 11 ∷ 12 ∷ 13 ∷ 14 ∷ 15 ∷ 17 ∷ []
+abbrev pub replyNumbers : Profile → List ℕ
+replyNumbers P = orNotAllowed P (1 ∷ 2 ∷ 3 ∷ 4 ∷ 7 ∷ 11 ∷ 12 ∷ 13 ∷ 14 ∷ 15 ∷ 17 ∷ [])
 
 -- a read that is fed in pieces: these of a request or of a reply, 9 "for a connection record that counts more bytes than the buffer or the limit", and 16 (02, order 1) ..
-abbrev pub feedRequestNumbers : List ℕ
-feedRequestNumbers = 9 ∷ 16 ∷ requestNumbers
+abbrev pub feedRequestNumbers : Profile → List ℕ
+feedRequestNumbers P = 9 ∷ 16 ∷ requestNumbers P
 
-abbrev pub feedReplyNumbers : List ℕ
-feedReplyNumbers = 9 ∷ 16 ∷ replyNumbers
+abbrev pub feedReplyNumbers : Profile → List ℕ
+feedReplyNumbers P = 9 ∷ 16 ∷ replyNumbers P
 
--- by which message is expected
-abbrev pub expectedNumbers : Expected → List ℕ
-expectedNumbers expected.Request = feedRequestNumbers
-expectedNumbers expected.Reply = feedReplyNumbers
+-- by which message is expected, and in which profile
+abbrev pub expectedNumbers : Expected → Profile → List ℕ
+expectedNumbers expected.Request P = feedRequestNumbers P
+expectedNumbers expected.Reply P = feedReplyNumbers P
 
 -- .. and the number of the refusal that the connection holds, where it holds one: "later calls change nothing and give it again"
 abbrev pub orKept : Standing → List ℕ → List ℕ
@@ -219,8 +227,9 @@ pub record Piecewise : Type 0 where
   pub brought : pieces.Brought
   pub terms : judge.Terms
 
-abbrev pub lineOf : Piecewise → pieces.Line
-lineOf x = record { limit = x .limit; gathered = x .gathered; begins = x .begins; met = x .met; standing = pending }
+-- .. in a profile
+abbrev pub lineOf : Profile → Piecewise → pieces.Line
+lineOf P x = record { profile = P; limit = x .limit; gathered = x .gathered; begins = x .begins; met = x .met; standing = pending }
 
 pub record Filled : Type 0 where
   pub kind : ℕ

@@ -7,6 +7,7 @@ use mathlib.Core.List.{List, []}
 use mathlib.Core.Bool.{true, false}
 use lib.ListN.{take}
 use Rattle.nts.specs.Refusal.{Beside, protocol, algorithm, Refused}
+use Rattle.layout.specs.declared.Profile.{Profile}
 use Rattle.walk.specs.Walk.{walk}
 use Rattle.walk.specs.Found.{placeOf}
 use Rattle.walk.specs.Judge.{Terms, roomFor}
@@ -26,24 +27,25 @@ pub record Answers (R : Reader Shown) : Type 1 where
   pub protocol : (c : R .Call) (s : Shown) → R .Accepts c s → R .under c .terms .protocols (protocolIn s) ≡ true
   pub algorithm : (c : R .Call) (s : Shown) → R .Accepts c s → R .under c .terms .algorithms (algorithmIn s) ≡ true
 
--- ---- what the order changes
+-- ---- what the order changes, in every profile
 
--- a message m, cut after n bytes and read under x; and by one to whom every number was offered, which is as 01 reads it
-abbrev pub said : List ℕ → ℕ → Terms → Told
-said m n x = toldBy m (replyOf m n x)
+-- a message m, read in the profile P, cut after n bytes and under x; and by one to whom every number was offered, which is as 01 reads it
+abbrev pub said : Profile → List ℕ → ℕ → Terms → Told
+said P m n x = toldBy m (replyOf P m n x)
 
-abbrev pub before : List ℕ → ℕ → Terms → Told
-before m n x = toldBy m (replyOf m n (roomFor (x .room)))
+abbrev pub before : Profile → List ℕ → ℕ → Terms → Told
+before P m n x = toldBy m (replyOf P m n (roomFor (x .room)))
 
 -- 17 with what is beside it, at the place of the end record
-abbrev pub seventeen : List ℕ → ℕ → Beside → Told
-seventeen m n b = refusedWith (record { number = 17; beside = b; place = placeOf (walk reader [] 0 0 (take n m)) })
+abbrev pub seventeen : Profile → List ℕ → ℕ → Beside → Told
+seventeen P m n b = refusedWith (record { number = 17; beside = b; place = placeOf (walk (reader P) [] 0 0 (take n m)) })
 
-pub data Corrected (m : List ℕ) (n : ℕ) (x : Terms) : Type 0 where
+pub data Corrected (P : Profile) (m : List ℕ) (n : ℕ) (x : Terms) : Type 0 where
   -- what is decided before 17 is as it was, whatever was offered
-  early : (r : Refused) → Early r → before m n x ≡ refusedWith r → said m n x ≡ refusedWith r → Corrected m n x
+  early : (r : Refused) → Early r → before P m n x ≡ refusedWith r → said P m n x ≡ refusedWith r → Corrected P m n x
   -- where both numbers that the reply names were offered, the answer is as it was
-  offered : x .protocols (namedBy 1 m n) ≡ true → x .algorithms (namedBy 4 m n) ≡ true → said m n x ≡ before m n x → Corrected m n x
+  offered : x .protocols (namedBy P 1 m n) ≡ true → x .algorithms (namedBy P 4 m n) ≡ true → said P m n x ≡ before P m n x → Corrected P m n x
   -- where it was 15, 7 or a reply: 17 with the protocol that was not offered; or that was, and 17 with the algorithm that was not
-  no-protocol : Late (before m n x) → x .protocols (namedBy 1 m n) ≡ false → said m n x ≡ seventeen m n (protocol (namedBy 1 m n)) → Corrected m n x
-  no-algorithm : Late (before m n x) → x .protocols (namedBy 1 m n) ≡ true → x .algorithms (namedBy 4 m n) ≡ false → said m n x ≡ seventeen m n (algorithm (namedBy 4 m n)) → Corrected m n x
+  no-protocol : Late (before P m n x) → x .protocols (namedBy P 1 m n) ≡ false → said P m n x ≡ seventeen P m n (protocol (namedBy P 1 m n)) → Corrected P m n x
+  no-algorithm : Late (before P m n x) → x .protocols (namedBy P 1 m n) ≡ true → x .algorithms (namedBy P 4 m n) ≡ false
+      → said P m n x ≡ seventeen P m n (algorithm (namedBy P 4 m n)) → Corrected P m n x

@@ -1,4 +1,4 @@
--- 01, "Messages on both sides of a line", of the calls of a reader of requests: the rows of request/specs/Messages.antt.
+-- 01, "Messages on both sides of a line", and 02, order 5, of the calls of a reader of requests: the rows of request/specs/Messages.antt.
 use mathlib.Core.Path.{_≡_}
 use mathlib.Core.List.{List, [], _∷_}
 use Rattle.request.specs.Messages.{Outcome, refusal, contents, Under, Row}
@@ -10,7 +10,7 @@ abbrev pub Answers : (R : Reader Shown) → R .Call → Outcome → Type 0
 Answers R c (refusal y) = R .Refuses c y
 Answers R c (contents x) = R .Accepts c (inHand x)
 
--- every call with a row's message, under each of the row's limits and with whatever table, answers as the row says
+-- every call with a row's message, in the row's profile, under each of the row's limits and with whatever table, answers as the row says
 abbrev pub HoldsFor : Reader Shown → List Row → Type 1
 HoldsFor R [] = Unit {1}
-HoldsFor R (r ∷ rows) = ((c : R .Call) → R .asked c ≡ r .bytes → Under (r .limit) (r .bytes) (R .under c .limit) → Answers R c (r .answer)) × HoldsFor R rows
+HoldsFor R (r ∷ rows) = ((c : R .Call) → R .asked c ≡ r .bytes → R .under c .profile ≡ r .profile → Under (r .limit) (r .bytes) (R .under c .limit) → Answers R c (r .answer)) × HoldsFor R rows

@@ -5,6 +5,7 @@ use nts::NtsError;
 use plan::Appended;
 use plan::Plan;
 use record::ByteCount;
+use record::Profile;
 use reply::Answer;
 use reply::KeyExchangeResponse;
 use reply::Port;
@@ -87,6 +88,7 @@ fn read(message: &[u8], table: &mut [u16]) {
     let protocols = [NextProtocol::NTPV4.0];
     let algorithms = [AeadAlgorithm::AES_SIV_CMAC_256.0];
     let answer = KeyExchangeResponse::parse(
+        Profile::Usual,
         message,
         LIMIT,
         &protocols[0..1],

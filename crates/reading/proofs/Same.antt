@@ -7,7 +7,9 @@ use denote.Ref.{now}
 use Rattle.cells.specs.Cells.{Given, held}
 use Rattle.cells.proofs.Lent.{gives-same}
 use Rattle.reading.proofs.ntske_read_request.Reads as ntske-read-request
+use Rattle.reading.proofs.ntske_read_request_strict.Reads as ntske-read-request-strict
 use Rattle.reading.proofs.ntske_read_reply.Reads as ntske-read-reply
+use Rattle.reading.proofs.ntske_read_reply_strict.Reads as ntske-read-reply-strict
 use Rattle.reading.proofs.ntske_read_record.Reads as ntske-read-record
 use Rattle.reading.proofs.ntske_bit_named.Reads as ntske-bit-named
 use Rattle.reading.proofs.ntske_is_utf8.Reads as ntske-is-utf8
@@ -17,8 +19,14 @@ use Rattle.reading.proofs.reply_cells.Reads as reply-cells
 pub ntske-read-request-same : (κs : _) (a : _) (r r′ : _) (e e′ : _) → ntske-read-request.Learnt κs a r e → ntske-read-request.Learnt κs a r′ e′ → (r ≡ r′) × (now (e .1 .1 .0) ≡ now (e′ .1 .1 .0)) × (now (e .1 .1 .1 .0) ≡ now (e′ .1 .1 .1 .0))
 ntske-read-request-same κs a r r′ e e′ p q = let g = gives-same (p .gives) (q .gives) in (g .0, p .left ∙ sym (q .left), g .1)
 
+pub ntske-read-request-strict-same : (κs : _) (a : _) (r r′ : _) (e e′ : _) → ntske-read-request-strict.Learnt κs a r e → ntske-read-request-strict.Learnt κs a r′ e′ → (r ≡ r′) × (now (e .1 .1 .0) ≡ now (e′ .1 .1 .0)) × (now (e .1 .1 .1 .0) ≡ now (e′ .1 .1 .1 .0))
+ntske-read-request-strict-same κs a r r′ e e′ p q = let g = gives-same (p .gives) (q .gives) in (g .0, p .left ∙ sym (q .left), g .1)
+
 pub ntske-read-reply-same : (κs : _) (a : _) (r r′ : _) (e e′ : _) → ntske-read-reply.Learnt κs a r e → ntske-read-reply.Learnt κs a r′ e′ → (r ≡ r′) × (now (e .1 .1 .1 .1 .0) ≡ now (e′ .1 .1 .1 .1 .0)) × (now (e .1 .1 .1 .1 .1 .0) ≡ now (e′ .1 .1 .1 .1 .1 .0))
 ntske-read-reply-same κs a r r′ e e′ p q = let g = gives-same (p .gives) (q .gives) in (g .0, p .left ∙ sym (q .left), g .1)
+
+pub ntske-read-reply-strict-same : (κs : _) (a : _) (r r′ : _) (e e′ : _) → ntske-read-reply-strict.Learnt κs a r e → ntske-read-reply-strict.Learnt κs a r′ e′ → (r ≡ r′) × (now (e .1 .1 .1 .1 .0) ≡ now (e′ .1 .1 .1 .1 .0)) × (now (e .1 .1 .1 .1 .1 .0) ≡ now (e′ .1 .1 .1 .1 .1 .0))
+ntske-read-reply-strict-same κs a r r′ e e′ p q = let g = gives-same (p .gives) (q .gives) in (g .0, p .left ∙ sym (q .left), g .1)
 
 pub ntske-read-record-same : (κs : _) (a : _) (r r′ : _) (e e′ : _) → ntske-read-record.Learnt κs a r e → ntske-read-record.Learnt κs a r′ e′ → (r ≡ r′) × (now (e .1 .1 .0) ≡ now (e′ .1 .1 .0))
 ntske-read-record-same κs a r r′ e e′ p q = gives-same p q

@@ -1,8 +1,10 @@
--- The answers of the readers as cells: 01, "The record", "From records to a request" and "Choosing and replying". Cells that an answer does not use are 0.
+-- The answers of the readers as cells: 01, "The record", "From records to a request" and "Choosing and replying"; 02, order 5: those of a strict read are the same.
+-- Cells that an answer does not use are 0.
 use Prim.Native.Nat.{ℕ}
 use mathlib.Core.Path.{_≡_}
 use mathlib.Core.List.{List, [], _∷_}
 use Rattle.layout.specs.declared.Part.{Part}
+use Rattle.layout.specs.declared.Profile.{Profile}
 use Rattle.layout.specs.declared.Bit.{Bit}
 use Rattle.layout.specs.declared.Bit.the-variants as named
 use Rattle.record.specs.Record as rec
@@ -20,10 +22,10 @@ requestGiven (request.fixedKeyIs u c s a p k) = cells (2 ∷ u .start ∷ u .len
 requestGiven (request.supportIs u p a k) = cells (3 ∷ u .start ∷ u .len ∷ flag p ∷ flag a ∷ flag k ∷ 0 ∷ 0 ∷ 0 ∷ 0 ∷ [])
 requestGiven (request.refusedWith r) = refuses r
 
--- the call: its answer, and the table of names afterwards
-pub record ReadsRequest (m : List ℕ) (n : ℕ) (table lent : List ℕ) (r : ℕ) (table′ after : List ℕ) : Type 0 where
-  pub gives : Gives (requestGiven (request.toldBy m (request.request m n (roomOf table)))) lent r after
-  pub left : table′ ≡ request.tableAfter (request.request m n (roomOf table)) table
+-- the call in a profile: its answer, and the table of names afterwards
+pub record ReadsRequest (P : Profile) (m : List ℕ) (n : ℕ) (table lent : List ℕ) (r : ℕ) (table′ after : List ℕ) : Type 0 where
+  pub gives : Gives (requestGiven (request.toldBy m (request.request P m n (roomOf table)))) lent r after
+  pub left : table′ ≡ request.tableAfter (request.request P m n (roomOf table)) table
 
 -- ---- a reply: nine cells
 
@@ -49,9 +51,9 @@ replyGiven (reply.replyIs p a s t k c) =
     cells (p ∷ a ∷ serverThere s ∷ serverName s .start ∷ serverName s .len ∷ portThere t ∷ portNumber t ∷ flag k ∷ c ∷ [])
 replyGiven (reply.refusedWith r) = refuses r
 
-pub record ReadsReply (m : List ℕ) (n : ℕ) (protocols algorithms table lent : List ℕ) (r : ℕ) (table′ after : List ℕ) : Type 0 where
-  pub gives : Gives (replyGiven (reply.toldBy m (reply.replyOf m n (reply.offering protocols algorithms (roomOf table))))) lent r after
-  pub left : table′ ≡ reply.tableAfter (reply.replyOf m n (reply.offering protocols algorithms (roomOf table))) table
+pub record ReadsReply (P : Profile) (m : List ℕ) (n : ℕ) (protocols algorithms table lent : List ℕ) (r : ℕ) (table′ after : List ℕ) : Type 0 where
+  pub gives : Gives (replyGiven (reply.toldBy m (reply.replyOf P m n (reply.offering protocols algorithms (roomOf table))))) lent r after
+  pub left : table′ ≡ reply.tableAfter (reply.replyOf P m n (reply.offering protocols algorithms (roomOf table))) table
 
 -- ---- one record: eight cells
 

@@ -1,9 +1,11 @@
-// The calls that read a request, a reply and one record, for a host in C or Rust; the bit that document 01 names for a kind; and the test for UTF-8.
+// The calls that read a request and a reply, in either profile, and one record, for a host in C or Rust; the bit that document 01 names for a kind; and the test for
+// UTF-8.
 use nts::Refusal;
 use record::Bit;
 use record::NtsRecord;
 use record::Parsed;
 use record::Part;
+use record::Profile;
 use reply::KeyExchangeResponse;
 use reply::Port;
 use reply::Server;
@@ -32,21 +34,29 @@ pub extern "C" fn ntske_read_request(
     table: &mut [u16],
     answer: &mut [usize; 10],
 ) -> u64
-    ensures { λ r. ⌜ ReadsRequest (now (message .entry)) limit (now (table .entry)) (now (answer .entry)) r (now (table .exit)) (now (answer .exit)) ⌝ }
+    ensures { λ r. ⌜ ReadsRequest Profile.Usual (now (message .entry)) limit (now (table .entry)) (now (answer .entry)) r (now (table .exit)) (now (answer .exit)) ⌝ }
 {
-    let read = Request::parse(message, limit, table);
-    match read {
-        request::Answer::Accepted(x) => {
-            *answer = request_cells(x);
-            0
-        }
-        request::Answer::Refused(x) => refused(x),
-    }
+    read_request(Profile::Usual, message, limit, table, answer)
 }
 
-// Reads a reply in the same way, to one who offered these protocols and algorithms. Answer, nine cells: protocol, algorithm, whether a server is named and
-// start and length of its name, whether there is a port and its number, keep-alive, and how many cookies there are. Refusals: 1 to 4, 7, 11 to 15, 17, at a
-// place.
+// Reads a request as ntske_read_request does, in the strict profile: kinds 0, 1, 2 and 3 need their critical bit, an end record has no body and no byte follows it
+// inside the limit, a server's name is ASCII, and kinds 8 to 14 are unknown. Answer, ten cells: 1, since there are only key exchanges, then start and length of the
+// protocols and of the algorithms; the others are 0. No name is denied, and the table stays as it was. Refusals: 1 to 4 and 18, at a place.
+#[no_mangle]
+pub extern "C" fn ntske_read_request_strict(
+    message: &[u8],
+    limit: u16,
+    table: &mut [u16],
+    answer: &mut [usize; 10],
+) -> u64
+    ensures { λ r. ⌜ ReadsRequest Profile.Strict (now (message .entry)) limit (now (table .entry)) (now (answer .entry)) r (now (table .exit)) (now (answer .exit)) ⌝ }
+{
+    read_request(Profile::Strict, message, limit, table, answer)
+}
+
+// Reads a reply as if the message were cut after `limit` bytes, to one who offered these protocols and algorithms. Answer, nine cells: protocol, algorithm, whether a
+// server is named and start and length of its name, whether there is a port and its number, keep-alive, and how many cookies there are. Refusals: 1 to 4, 7, 11 to
+// 15, 17, at a place.
 #[no_mangle]
 pub extern "C" fn ntske_read_reply(
     message: &[u8],
@@ -56,16 +66,41 @@ pub extern "C" fn ntske_read_reply(
     table: &mut [u16],
     answer: &mut [usize; 9],
 ) -> u64
-    ensures { λ r. ⌜ ReadsReply (now (message .entry)) limit (now (protocols .entry)) (now (algorithms .entry)) (now (table .entry)) (now (answer .entry)) r (now (table .exit)) (now (answer .exit)) ⌝ }
+    ensures { λ r. ⌜ ReadsReply Profile.Usual (now (message .entry)) limit (now (protocols .entry)) (now (algorithms .entry)) (now (table .entry)) (now (answer .entry)) r (now (table .exit)) (now (answer .exit)) ⌝ }
 {
-    let read = KeyExchangeResponse::parse(message, limit, protocols, algorithms, table);
-    match read {
-        reply::Answer::Accepted(x) => {
-            *answer = reply_cells(x);
-            0
-        }
-        reply::Answer::Refused(x) => refused(x),
-    }
+    read_reply(
+        Profile::Usual,
+        message,
+        limit,
+        protocols,
+        algorithms,
+        table,
+        answer,
+    )
+}
+
+// Reads a reply as ntske_read_reply does, in the strict profile. Answer, nine cells as there; keep-alive, whose kind is unknown, is always 0. Refusals: 1 to 4, 7, 11
+// to 15, 17, 18, at a place.
+#[no_mangle]
+pub extern "C" fn ntske_read_reply_strict(
+    message: &[u8],
+    limit: u16,
+    protocols: &[u16],
+    algorithms: &[u16],
+    table: &mut [u16],
+    answer: &mut [usize; 9],
+) -> u64
+    ensures { λ r. ⌜ ReadsReply Profile.Strict (now (message .entry)) limit (now (protocols .entry)) (now (algorithms .entry)) (now (table .entry)) (now (answer .entry)) r (now (table .exit)) (now (answer .exit)) ⌝ }
+{
+    read_reply(
+        Profile::Strict,
+        message,
+        limit,
+        protocols,
+        algorithms,
+        table,
+        answer,
+    )
 }
 
 // Reads the record at a place. Answer, eight cells: its kind, its critical bit as received, the number of kinds 2, 3 and 7, start and length of the
@@ -108,6 +143,48 @@ pub extern "C" fn ntske_is_utf8(bytes: &[u8]) -> u64
     ensures { λ r. ⌜ r ≡ flag (wellFormed (now (bytes .entry))) ⌝ }
 {
     if utf8::is_utf8(bytes) { 1 } else { 0 }
+}
+
+// Either call of a request: the cells of an accepted one, or its refusal.
+fn read_request(
+    profile: Profile,
+    message: &[u8],
+    limit: u16,
+    table: &mut [u16],
+    answer: &mut [usize; 10],
+) -> u64
+    ensures { λ r. ⌜ ReadsRequest profile (now (message .entry)) limit (now (table .entry)) (now (answer .entry)) r (now (table .exit)) (now (answer .exit)) ⌝ }
+{
+    let read = Request::parse(profile, message, limit, table);
+    match read {
+        request::Answer::Accepted(x) => {
+            *answer = request_cells(x);
+            0
+        }
+        request::Answer::Refused(x) => refused(x),
+    }
+}
+
+// Either call of a reply, in the same way.
+fn read_reply(
+    profile: Profile,
+    message: &[u8],
+    limit: u16,
+    protocols: &[u16],
+    algorithms: &[u16],
+    table: &mut [u16],
+    answer: &mut [usize; 9],
+) -> u64
+    ensures { λ r. ⌜ ReadsReply profile (now (message .entry)) limit (now (protocols .entry)) (now (algorithms .entry)) (now (table .entry)) (now (answer .entry)) r (now (table .exit)) (now (answer .exit)) ⌝ }
+{
+    let read = KeyExchangeResponse::parse(profile, message, limit, protocols, algorithms, table);
+    match read {
+        reply::Answer::Accepted(x) => {
+            *answer = reply_cells(x);
+            0
+        }
+        reply::Answer::Refused(x) => refused(x),
+    }
 }
 
 // A reader's refusal, whose place is not past its limit.

@@ -26,7 +26,7 @@ module _ (m : List ℕ) (at : ℕ) (y : Seen) (bit : Bool) (next : ℕ) (e : rea
       unknown-value (shapeOf (kind t)) (critical t) own (at + 4) a (size t) n (there t) i .1 ∙ sym (w .marked)
 
   -- a look there tells the kind, the bit and the body's size
-  pub read-look : lookAt m at ≡ whole (y .kind) bit (next - (at + 4))
+  pub read-look : lookAt shapeOf m at ≡ whole (y .kind) bit (next - (at + 4))
   unfolding readAt lookAt lookFrom seenOf
   read-look =
       let t = drop at m in
@@ -39,14 +39,14 @@ module _ (m : List ℕ) (at : ℕ) (y : Seen) (bit : Bool) (next : ℕ) (e : rea
   pub read-inside : (at ≤ next) × (next ≤ length m)
   unfolding readAt
   read-inside =
-      let i = look-inside m at (y .kind) bit (next - (at + 4)) (sym read-look) in
+      let i = look-inside shapeOf m at (y .kind) bit (next - (at + 4)) (sym read-look) in
       (omega (arith, read-was at (drop at m) y bit next e .after), omega (arith, read-was at (drop at m) y bit next e .after))
 
 -- and what a look tells is read
-pub look-read : (m : List ℕ) (at k : ℕ) (bit : Bool) (n : ℕ) → whole k bit n ≡ lookAt m at → (y : Seen) × (read y bit (at + 4 + n) ≡ readAt m at) × (y .kind ≡ k)
+pub look-read : (m : List ℕ) (at k : ℕ) (bit : Bool) (n : ℕ) → whole k bit n ≡ lookAt shapeOf m at → (y : Seen) × (read y bit (at + 4 + n) ≡ readAt m at) × (y .kind ≡ k)
 unfolding readAt lookAt readFrom seenOf
 look-read m at k bit n e =
     let t = drop at m in
-    let w = whole-was at t k bit n e in
+    let w = whole-was shapeOf at t k bit n e in
     let y = seenOf (kind t) (critical t) (at + 4) (size t) (there t) in
     (y, rw (eq-eqb (fault t) 0 (w .faultless)) (λ j. read y (w .marked j) (at + 4 + w .sized j)), sym (w .is))

@@ -11,7 +11,7 @@ use Rattle.nts.specs.Refusal.{Refused, nothing}
 use Rattle.layout.specs.Table.{shapeOf}
 use Rattle.layout.specs.declared.Shape.{Shape}
 use Rattle.layout.specs.declared.Shape.the-variants.{Skipped, Numbers, Number, Bytes, Name, Pairs, Halves, Unknown}
-use Rattle.record.specs.Record.{kind, critical, size, there, fault, Value, skipped, number, part, halves, unknown, valueOf, Seen, seenOf, Told, read, refused, readFrom, whole, broken, lookFrom}
+use Rattle.record.specs.Record.{kind, critical, size, there, faultBy, fault, Value, skipped, number, part, halves, unknown, valueOf, Seen, seenOf, Told, read, refused, readFrom, whole, broken, lookFrom}
 
 -- a record that was read at the front of t, which begins at `at`
 pub record WasRead (at : ℕ) (t : List ℕ) (x : Seen) (bit : Bool) (next : ℕ) : Type 0 where
@@ -37,27 +37,27 @@ refused-was at t r e = go (eqb (fault t) 0) refl e
     go false z q = (eqb-false (fault t) 0 z, cc)
 
 -- the same of a look
-pub record WasWhole (t : List ℕ) (k : ℕ) (bit : Bool) (n : ℕ) : Type 0 where
-  pub faultless : fault t ≡ 0
+pub record WasWhole (f : ℕ → Shape) (t : List ℕ) (k : ℕ) (bit : Bool) (n : ℕ) : Type 0 where
+  pub faultless : faultBy f t ≡ 0
   pub is : k ≡ kind t
   pub marked : bit ≡ critical t
   pub sized : n ≡ size t
 
-pub whole-was : (at : ℕ) (t : List ℕ) (k : ℕ) (bit : Bool) (n : ℕ) → whole k bit n ≡ lookFrom at t → WasWhole t k bit n
+pub whole-was : (f : ℕ → Shape) (at : ℕ) (t : List ℕ) (k : ℕ) (bit : Bool) (n : ℕ) → whole k bit n ≡ lookFrom f at t → WasWhole f t k bit n
 unfolding lookFrom
-whole-was at t k bit n e = go (eqb (fault t) 0) refl e
+whole-was f at t k bit n e = go (eqb (faultBy f t) 0) refl e
   where
-    go : (b : Bool) → eqb (fault t) 0 ≡ b → whole k bit n ≡ cond b (whole (kind t) (critical t) (size t)) (broken (record { number = fault t; beside = nothing; place = at })) → WasWhole t k bit n
-    go true z q = record { faultless = eqb-true (fault t) 0 z; is = cc; marked = cc; sized = cc }
+    go : (b : Bool) → eqb (faultBy f t) 0 ≡ b → whole k bit n ≡ cond b (whole (kind t) (critical t) (size t)) (broken (record { number = faultBy f t; beside = nothing; place = at })) → WasWhole f t k bit n
+    go true z q = record { faultless = eqb-true (faultBy f t) 0 z; is = cc; marked = cc; sized = cc }
     go false z q = let o : _≡_ {A = ℕ} 0 1 = cc in absurd (omega arith)
 
-pub broken-was : (at : ℕ) (t : List ℕ) (r : Refused) → broken r ≡ lookFrom at t → (fault t ≡ 0 → ⊥) × (r ≡ record { number = fault t; beside = nothing; place = at })
+pub broken-was : (f : ℕ → Shape) (at : ℕ) (t : List ℕ) (r : Refused) → broken r ≡ lookFrom f at t → (faultBy f t ≡ 0 → ⊥) × (r ≡ record { number = faultBy f t; beside = nothing; place = at })
 unfolding lookFrom
-broken-was at t r e = go (eqb (fault t) 0) refl e
+broken-was f at t r e = go (eqb (faultBy f t) 0) refl e
   where
-    go : (b : Bool) → eqb (fault t) 0 ≡ b → broken r ≡ cond b (whole (kind t) (critical t) (size t)) (broken (record { number = fault t; beside = nothing; place = at })) → (fault t ≡ 0 → ⊥) × (r ≡ record { number = fault t; beside = nothing; place = at })
+    go : (b : Bool) → eqb (faultBy f t) 0 ≡ b → broken r ≡ cond b (whole (kind t) (critical t) (size t)) (broken (record { number = faultBy f t; beside = nothing; place = at })) → (faultBy f t ≡ 0 → ⊥) × (r ≡ record { number = faultBy f t; beside = nothing; place = at })
     go true z q = let o : _≡_ {A = ℕ} 0 1 = cc in absurd (omega arith)
-    go false z q = (eqb-false (fault t) 0 z, cc)
+    go false z q = (eqb-false (faultBy f t) 0 z, cc)
 
 -- ---- a record's kind and value, from what is seen
 

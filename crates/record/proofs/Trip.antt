@@ -25,7 +25,7 @@ use Rattle.layout.specs.declared.Shape.the-variants as shape
 use Rattle.layout.specs.declared.Layout.{Layout}
 use Rattle.layout.proofs.Table.{unknown-numbers, unknown-shape, shape-unknown, unknown-bit, skipped-numbers}
 use Rattle.layout.proofs.Writing.{sound, sound-record, length-body, just-long, measured-long}
-use Rattle.record.specs.Record.{kindOf, criticalOf, kind, critical, size, there, short, uneven, notNumber, notHalves, notUtf8, firstOf, notName, faultOf, fault, Value, skipped, number, part, halves, unknown, valueOf, Seen, seenOf, read, refused, readFrom, readAt}
+use Rattle.record.specs.Record.{kindOf, criticalOf, kind, critical, size, there, short, uneven, notNumber, notHalves, notUtf8, firstOf, notName, faultOf, faultBy, fault, Value, skipped, number, part, halves, unknown, valueOf, Seen, seenOf, read, refused, readFrom, readAt}
 use Rattle.record.specs.Told.{kindOfRecord, valueOfRecord, toldRecord}
 use Rattle.record.specs.Laid.{none, layoutBy, layoutOf}
 use Rattle.record.specs.Shown.{heldIn, shown, givenBy, givenBit, canonical, IsCanonical}
@@ -506,7 +506,7 @@ found at u y bit next e =
     absurd (omega arith))
 
 whole-header : (u : List ℕ) → fault u ≡ 0 → (4 ≤ length u) × (faultOf (shapeOf (kind u)) (size u) (there u) ≡ 0)
-unfolding fault
+unfolding faultBy
 whole-header u e = let x = passed (ltb (length u) 4) 1 _ (omega arith) e in (ltb-false (length u) 4 (x .0), x .1)
 
 -- a body that is all there is a part of the message

@@ -8,10 +8,9 @@ use native.Mathlib.Omega.{arith}
 use lib.ListN.{length, length-take, length-drop}
 use lib.Dec.{ltb, eqb}
 use borrow.Author.Tests.{ltb-false, eqb-true, eqb-false, le-ltb}
-use Rattle.layout.specs.Table.{shapeOf}
 use Rattle.layout.specs.declared.Shape.{Shape}
 use Rattle.layout.specs.declared.Shape.the-variants.{Skipped, Numbers, Number, Bytes, Name, Pairs, Halves, Unknown}
-use Rattle.record.specs.Record.{kind, size, there, short, uneven, notNumber, notHalves, notUtf8, firstOf, notName, faultOf, fault}
+use Rattle.record.specs.Record.{kind, size, there, short, uneven, notNumber, notHalves, notUtf8, firstOf, notName, faultOf, faultBy}
 
 -- ---- a body without fault is all there
 
@@ -72,25 +71,25 @@ body-there Unknown n b h = short-there n (length b) h
 -- ---- a record of which a body is asked
 
 -- what the fault of the record at the list's front says of its body
-pub body-fault : (s : List ℕ) → fault s ≡ 0 → (4 ≤ length s) × (faultOf (shapeOf (kind s)) (size s) (there s) ≡ 0)
-unfolding fault
-body-fault s h =
+pub body-fault : (f : ℕ → Shape) (s : List ℕ) → faultBy f s ≡ 0 → (4 ≤ length s) × (faultOf (f (kind s)) (size s) (there s) ≡ 0)
+unfolding faultBy
+body-fault f s h =
     let p = not-first (ltb (length s) 4) 0 _ h in
     (ltb-false (length s) 4 (p .0), p .1)
 
 -- its body is as long as the header says
-pub there-length : (s : List ℕ) → fault s ≡ 0 → length (there s) ≡ size s
+pub there-length : (f : ℕ → Shape) (s : List ℕ) → faultBy f s ≡ 0 → length (there s) ≡ size s
 unfolding there
-there-length s h =
-    let f = body-there (shapeOf (kind s)) (size s) (there s) (body-fault s h .1) in
-    length-take (size s) _ ∙ omega (arith, simp (length-take) at f)
+there-length f s h =
+    let l = body-there (f (kind s)) (size s) (there s) (body-fault f s h .1) in
+    length-take (size s) _ ∙ omega (arith, simp (length-take) at l)
 
 -- one number is two bytes
-pub number-length : (s : List ℕ) → fault s ≡ 0 → shapeOf (kind s) ≡ Number → size s ≡ 2
+pub number-length : (f : ℕ → Shape) (s : List ℕ) → faultBy f s ≡ 0 → f (kind s) ≡ Number → size s ≡ 2
 unfolding faultOf notNumber
-number-length s h e =
-    let f = body-fault s h .1 in
-    let g : notNumber (size s) (length (there s)) ≡ 0 = rw e at f in
+number-length f s h e =
+    let b = body-fault f s h .1 in
+    let g : notNumber (size s) (length (there s)) ≡ 0 = rw e at b in
     eqb-true (size s) 2 (not-second (eqb (size s) 2) 1 0 (not-first (ltb (length (there s)) 2) 0 _ g .1) .0)
 
 -- shapes of which only the length is asked

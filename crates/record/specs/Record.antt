@@ -78,9 +78,12 @@ faultOf Pairs n b = uneven 4 n (length b)
 faultOf Halves n b = notHalves n (length b)
 faultOf Unknown n b = short n (length b)
 
--- the fault of the record at the list's front; a header that is not all there: 1
-unfoldable pub fault : List ℕ → ℕ
-fault s = cond (ltb (length s) 4) 1 (faultOf (shapeOf (kind s)) (size s) (there s))
+-- the fault of the record at the list's front, by what each kind's body holds; a header that is not all there: 1
+unfoldable pub faultBy : (ℕ → Shape) → List ℕ → ℕ
+faultBy shape s = cond (ltb (length s) 4) 1 (faultOf (shape (kind s)) (size s) (there s))
+
+abbrev pub fault : List ℕ → ℕ
+fault s = faultBy shapeOf s
 
 -- ---- what is read
 
@@ -129,16 +132,16 @@ readAt s at = readFrom at (drop at s)
 
 -- ---- what a walk asks of a record
 
--- refused as above, or its kind, its bit and its size
+-- refused as above, by what each kind's body holds, or its kind, its bit and its size
 pub data Sight : Type 0 where
   whole : ℕ → Bool → ℕ → Sight
   broken : Refused → Sight
 
-unfoldable pub lookFrom : ℕ → List ℕ → Sight
-lookFrom at s =
-    cond (eqb (fault s) 0)
+unfoldable pub lookFrom : (ℕ → Shape) → ℕ → List ℕ → Sight
+lookFrom shape at s =
+    cond (eqb (faultBy shape s) 0)
     (whole (kind s) (critical s) (size s))
-    (broken (record { number = fault s; beside = nothing; place = at }))
+    (broken (record { number = faultBy shape s; beside = nothing; place = at }))
 
-unfoldable pub lookAt : List ℕ → ℕ → Sight
-lookAt s at = lookFrom at (drop at s)
+unfoldable pub lookAt : (ℕ → Shape) → List ℕ → ℕ → Sight
+lookAt shape s at = lookFrom shape at (drop at s)

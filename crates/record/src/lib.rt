@@ -5,6 +5,7 @@ pub use layout::Bit;
 pub use layout::ByteCount;
 use layout::Layout;
 pub use layout::Part;
+pub use layout::Profile;
 use layout::Row;
 use layout::Shape;
 pub use layout::put_header;
@@ -20,6 +21,7 @@ ghost use Prim.Native.Nat.{_+_, _/_, _<_, _≤_, _^_};
 ghost use lib.ListN.{length, take, drop};
 ghost use Rattle.wire.specs.Bytes.{partAt};
 ghost use Rattle.layout.specs.Table.{rowOf, shapeOf};
+ghost use Rattle.layout.specs.Profile.{shapeIn};
 ghost use Rattle.record.specs.Record.{kindOf, criticalOf, short, uneven, notNumber, notHalves, notUtf8, firstOf, notName, faultOf, seenOf, readAt, lookAt};
 ghost use Rattle.record.specs.Entry.{numberIn, pairIn};
 ghost use Rattle.record.specs.Told.{toldFault, toldRecord, toldParsed, toldLooked, toldNumber, toldProtocol, toldAlgorithm, toldPair};
@@ -197,9 +199,9 @@ impl Cursor {
     }
 }
 
-// The record at a place of a message, as far as a walk asks for it. `parse` refuses as it does, and otherwise hands out the record.
-pub fn look(message: &[u8], at: usize) -> Looked
-    ensures { λ r. ⌜ toldLooked r ≡ lookAt (now (message .entry)) at ⌝ }
+// The record at a place of a message, as far as a walk asks for it, in a profile. `parse` refuses as it does in the usual one, and otherwise hands out the record.
+pub fn look(profile: Profile, message: &[u8], at: usize) -> Looked
+    ensures { λ r. ⌜ toldLooked r ≡ lookAt (shapeIn profile) (now (message .entry)) at ⌝ }
 {
     if message.len() < at {
         return unseen(NtsError::UnexpectedEof, at);
@@ -212,7 +214,7 @@ pub fn look(message: &[u8], at: usize) -> Looked
     let size = wire::number_at(rest, 2);
     let kind = kind_of(word);
     let body = there(rest, size as usize);
-    let fault = fault_of(shape_of(kind), size as usize, body);
+    let fault = fault_of(shape_of(profile.taken(kind)), size as usize, body);
     match fault {
         Fault::None => Looked::Whole(Glance {
             kind,

@@ -10,10 +10,9 @@ use lib.ListN.{length, getD}
 use lib.Dec.{ltb, eqb}
 use Rattle.wire.specs.Bytes.{numberAt}
 use Rattle.nts.specs.Refusal.{Beside, nothing, protocol, algorithm}
-use Rattle.layout.specs.Table.{rowOf, shapeOf, isUnknown}
+use Rattle.layout.specs.Table.{rowOf, shapeOf}
 use Rattle.walk.specs.Walk.{Sighting}
 use Rattle.walk.specs.Judge.{Verdict, Terms, withFirst, bodyIn, partOf, placed}
-use Rattle.walk.specs.Table.{known}
 use Rattle.walk.specs.Rules.{isNoted}
 use Rattle.walk.specs.declared.Seen.{Seen}
 use Rattle.walk.specs.Found.{entryIn, firstIn, toldIn}
@@ -69,7 +68,7 @@ module _ (m : List ℕ) (at : ℕ) (x : Terms) where
   refusedAt n b = refusedWith (record { number = n; beside = b; place = at })
 
   module _ (c : List ℕ) (fits : Fits rules (length m) c) where
-    inside : (k : ℕ) → k < 15 → known k ≡ true → isNoted (getD rules k 0) ≡ true → firstIn c k .start + firstIn c k .len ≤ length m
+    inside : (k : ℕ) → k < 15 → eqb k 11 ≡ false → isNoted (getD rules k 0) ≡ true → firstIn c k .start + firstIn c k .len ≤ length m
     unfolding Fits
     inside k l kn nt = fits k l kn nt
 
@@ -104,7 +103,7 @@ module _ (m : List ℕ) (at : ℕ) (x : Terms) where
         (cond (not (x .algorithms (numberIn m a))) (refusedAt 17 (algorithm (numberIn m a)))
         (cookiesFor (x .room) at m c (numberIn m p) (numberIn m a)))))))
         ≡ told (decide x (bodyIn m) (toldIn c))
-    unfolding decide cookiesFor acceptedIn known isUnknown shapeOf rowOf isNoted
+    unfolding decide cookiesFor acceptedIn isNoted
     decided-is p a ep ea =
         let i1 = inside 1 (omega arith) refl refl in
         let i4 = inside 4 (omega arith) refl refl in

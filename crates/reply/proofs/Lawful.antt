@@ -9,6 +9,7 @@ use lib.ListN.{length, length-map}
 use lib.Dec.{ltb, eqb}
 use Rattle.wire.specs.Bytes.{numberAt}
 use Rattle.nts.specs.Refusal.{Beside, nothing, code}
+use Rattle.layout.specs.declared.Profile.{Profile}
 use Rattle.walk.specs.Walk.{Act, ends, notes, refuses}
 use Rattle.walk.specs.Judge.{Verdict, no, yes, Terms, some}
 use Rattle.walk.proofs.Laws.{mapVerdict, Lawful}
@@ -53,9 +54,9 @@ module _ {A : Type 0} (f : A → List ℕ) where
 
 -- ---- the laws
 
-pub reply-lawful : Lawful reader judging
+pub reply-lawful : (P : Profile) → Lawful (reader P) judging
 unfolding decide once
-reply-lawful = record {
+reply-lawful P = record {
   natural = λ u f l. decide-map f (u .terms) l;
   stable = λ u l l′ h n. rw (h 1 refl, h 4 refl, h 5 refl, h 6 refl, h 7 refl, some-length (l 8) (l′ 8) (n 8));
 }

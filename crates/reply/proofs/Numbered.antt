@@ -1,4 +1,4 @@
--- A reply is refused with 1, 2, 3, 4, 7, 11, 12, 13, 14, 15, 17 and no other number; 11, 12 and 17 alone have a number beside them, of sixteen bits, where the message is bytes.
+-- A reply is refused with 1, 2, 3, 4, 7, 11, 12, 13, 14, 15, 17, in the strict profile with 18 too, and no other number; 11, 12 and 17 alone have a number beside them, of sixteen bits, where the message is bytes.
 -- Assumes nothing.
 use mathlib.Core.Path.{_≡_, refl}
 use mathlib.Core.List.{List}
@@ -9,12 +9,13 @@ use lib.Dec.{ltb, eqb}
 use Rattle.wire.specs.Bytes.{numberAt}
 use Rattle.wire.proofs.Bytes.{Small, small-part, number-small}
 use Rattle.nts.specs.Refusal.{nothing, code, Refused}
+use Rattle.layout.specs.declared.Profile.{Profile}
 use Rattle.walk.specs.Walk.{notes, Sighting}
 use Rattle.walk.specs.Judge.{Terms, bodyIn, refused}
-use Rattle.walk.proofs.Numbered.{coded, Numbered, bare, ActBy, VerdictBy, act-if, act-by, verdict-if, verdict-first, refused-numbered}
+use Rattle.walk.proofs.Numbered.{coded, Numbered, bare, ActBy, VerdictBy, Barred, act-if, act-by, final-by, verdict-if, verdict-first, refused-numbered}
 use Rattle.reply.specs.Reply.{act, reader, decide, judging, replyOf}
 
--- P says of a number that it may be told: what holds of these eleven holds of the number of every refusal
+-- P says of a number that it may be told: what holds of these eleven, and of 18 where the profile has it, holds of the number of every refusal
 module _ (P : ℕ → Type 0) (p : P 1 × P 2 × P 3 × P 4 × P 7 × P 11 × P 12 × P 13 × P 14 × P 15 × P 17) where
   act-numbered : (k : ℕ) (b : List ℕ) → ActBy P b (act k b)
   unfolding act
@@ -45,7 +46,7 @@ module _ (P : ℕ → Type 0) (p : P 1 × P 2 × P 3 × P 4 × P 7 × P 11 × P 
       named : (b : Sighting) → Small m → numberAt (bodyIn m b) 0 < 65536
       named b h = number-small (bodyIn m b) (small-part m (b .len) (b .start) h)
 
-  pub reply-numbered : (m : List ℕ) (n : ℕ) (x : Terms) (r : Refused) → replyOf m n x ≡ refused r → Numbered P m (r .number) (r .beside)
+  pub reply-numbered : (X : Profile) → Barred P X → (m : List ℕ) (n : ℕ) (x : Terms) (r : Refused) → replyOf X m n x ≡ refused r → Numbered P m (r .number) (r .beside)
   unfolding replyOf
-  reply-numbered m n x r e =
-      refused-numbered P (p .0, p .1, p .3) reader (act-by P (p .2) act act-numbered) judging m (record { limit = n; terms = x }) (λ l. decide-numbered m x l) r e
+  reply-numbered X y m n x r e =
+      refused-numbered P (p .0, p .1, p .3) (reader X) (act-by P (p .2) X y act act-numbered) (final-by P X y) judging m (record { profile = X; limit = n; terms = x }) (λ l. decide-numbered m x l) r e

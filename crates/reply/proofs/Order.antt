@@ -10,6 +10,7 @@ use lib.ListN.{length}
 use lib.Dec.{ltb, eqb}
 use borrow.Author.Tests.{ltb-false}
 use Rattle.nts.specs.Refusal.{nothing}
+use Rattle.layout.specs.declared.Profile.{Profile}
 use Rattle.walk.specs.Walk.{Sighting}
 use Rattle.wire.specs.Bytes.{numberAt}
 use Rattle.walk.specs.Judge.{Terms, Under, Verdict, some, withFirst, ofKind, bodyIn, Answer, accepted}
@@ -26,7 +27,7 @@ shows m q = mapForm (bodyIn m) q
 
 -- the definition, under what is asked
 abbrev pub reading : List ℕ → Under → Answer Form
-reading m u = replyOf m (u .limit) (u .terms)
+reading m u = replyOf (u .profile) m (u .limit) (u .terms)
 
 pub reply-ordered : Ordered reading shows
 unfolding replyOf
@@ -81,17 +82,17 @@ first-inside N (x ∷ l) i = i .0
 abbrev pub Offered : Terms → List ℕ → Form Sighting → Type 0
 Offered x m (reply p a s t k c) = (x .protocols (numberAt (bodyIn m p) 0) ≡ true) × (x .algorithms (numberAt (bodyIn m a) 0) ≡ true)
 
-module _ (m : List ℕ) (n : ℕ) (x : Terms) (q : Form Sighting) where
-  pub accepted-inside : replyOf m n x ≡ accepted q → InsideForm (length m) q
+module _ (P : Profile) (m : List ℕ) (n : ℕ) (x : Terms) (q : Form Sighting) where
+  pub accepted-inside : replyOf P m n x ≡ accepted q → InsideForm (length m) q
   unfolding replyOf
   accepted-inside =
-      accepted-held judging (InsideForm (length m)) reader m (record { limit = n; terms = x }) q
+      accepted-held judging (InsideForm (length m)) (reader P) m (record { profile = P; limit = n; terms = x }) q
       (λ st i. let every : (k : ℕ) → Inside (length m) (ofKind k st) = λ k. kind-inside (length m) k st i in
       decide-held (length m) x (λ k. ofKind k st) every (bodyIn m) (InsideForm (length m))
       (λ p a h o u r. (h .0, h .1 .0, first-inside (length m) (ofKind 6 st) (every 6), first-inside (length m) (ofKind 7 st) (every 7), h .1 .1)))
 
-  pub accepted-offered : replyOf m n x ≡ accepted q → Offered x m q
+  pub accepted-offered : replyOf P m n x ≡ accepted q → Offered x m q
   unfolding replyOf
   accepted-offered =
-      accepted-held judging (Offered x m) reader m (record { limit = n; terms = x }) q
+      accepted-held judging (Offered x m) (reader P) m (record { profile = P; limit = n; terms = x }) q
       (λ st i. decide-held (length m) x (λ k. ofKind k st) (λ k. kind-inside (length m) k st i) (bodyIn m) (Offered x m) (λ p a h o u r. (o, u)))

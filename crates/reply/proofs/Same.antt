@@ -14,7 +14,7 @@ KeyExchangeResponse-judge-same κs a r r′ e e′ p q =
     let y = p .stopped ∙ sym (q .stopped) in
     λ i. record { answer = x i; place = y i }
 
-pub KeyExchangeResponse-parse-same : (κs : _) (a : _) (r r′ : _) (e e′ : _) → parse.Learnt κs a r e → parse.Learnt κs a r′ e′ → (r ≡ r′) × (now (e .1 .1 .1 .1 .0) ≡ now (e′ .1 .1 .1 .1 .0))
+pub KeyExchangeResponse-parse-same : (κs : _) (a : _) (r r′ : _) (e e′ : _) → parse.Learnt κs a r e → parse.Learnt κs a r′ e′ → (r ≡ r′) × (now (e .1 .1 .1 .1 .1 .0) ≡ now (e′ .1 .1 .1 .1 .1 .0))
 KeyExchangeResponse-parse-same κs a r r′ e e′ p q = (answer-apart r r′ (p .says ∙ sym (q .says)), p .left ∙ sym (q .left))
 
 pub KeyExchangeResponse-named-same : (κs : _) (a : _) (r r′ : _) (e e′ : _) → named.Learnt κs a r e → named.Learnt κs a r′ e′ → r ≡ r′

@@ -1,4 +1,4 @@
--- A reply to a key-exchange request: 01, "Choosing and replying", "The reply reader goes in record order"; and 02, order 3, "a reply must answer what we asked".
+-- A reply to a key-exchange request: 01, "Choosing and replying", "The reply reader goes in record order"; and 02, order 3, "a reply must answer what we asked", in a profile: order 5.
 use Prim.Native.Nat.{ℕ}
 use mathlib.Core.Path.{_≡_}
 use mathlib.Core.List.{List, [], _∷_, map}
@@ -11,7 +11,8 @@ use Rattle.wire.specs.Over.{over}
 use Rattle.nts.specs.Refusal.{nothing, code, protocol, algorithm, Refused, toldRefusal}
 use Rattle.negotiation.specs.Negotiation.{holds}
 use Rattle.layout.specs.declared.Part.{Part}
-use Rattle.walk.specs.Walk.{Act, notes, refuses, Reader, Sighting, walk}
+use Rattle.layout.specs.declared.Profile.{Profile}
+use Rattle.walk.specs.Walk.{Act, notes, refuses, Reader, Sighting, walked}
 use Rattle.walk.specs.Judge as judge
 use Rattle.walk.specs.Judge.{Verdict, no, yes, Terms, Judge, some, withFirst, bodyIn, partOf, readBy}
 use Rattle.walk.specs.Table.{tableReader}
@@ -45,7 +46,7 @@ act k b =
 unfoldable pub once : ℕ → Bool
 once k = eqb k 1 || eqb k 4 || eqb k 6 || eqb k 7
 
-abbrev pub reader : Reader
+abbrev pub reader : Profile → Reader
 reader = tableReader act once
 
 -- the same as the table of a walk, by kind
@@ -108,9 +109,9 @@ decide x val l =
 abbrev pub judging : Judge
 judging = record { Q = Form; mapQ = λ {A} {B} f q. mapForm f q; decide = λ u {A} val l. decide (u .terms) val l }
 
--- a message m read as if it were cut after n bytes, under what is lent beside it
-unfoldable pub replyOf : List ℕ → ℕ → Terms → judge.Answer Form
-replyOf m n x = readBy reader judging m (record { limit = n; terms = x })
+-- a message m read in a profile as if it were cut after n bytes, under what is lent beside it
+unfoldable pub replyOf : Profile → List ℕ → ℕ → Terms → judge.Answer Form
+replyOf P m n x = readBy reader judging m (record { profile = P; limit = n; terms = x })
 
 -- "the two offered lists, as 16-bit cells": a number is among those offered if the list holds it. The table has room for so many cookies
 abbrev pub offering : List ℕ → List ℕ → ℕ → Terms
@@ -168,21 +169,21 @@ tableAfter x table = over (cells (cookiesOf x)) table
 -- ---- the numbers that a reply names, whatever was offered
 
 -- in the first body of a kind that the walk met; 0 where there is none
-unfoldable pub namedBy : ℕ → List ℕ → ℕ → ℕ
-namedBy k m n = numberAt (partAt m (entryIn (foundBy reader m n .cells) k .start) (entryIn (foundBy reader m n .cells) k .len)) 0
+unfoldable pub namedBy : Profile → ℕ → List ℕ → ℕ → ℕ
+namedBy P k m n = numberAt (partAt m (entryIn (foundBy (reader P) m n .cells) k .start) (entryIn (foundBy (reader P) m n .cells) k .len)) 0
 
 -- ---- the contracts
 
--- what is answered under x, and the place of the record at which the walk stopped
-pub record Judges (m : List ℕ) (n : ℕ) (x : Terms) (r : Judged) : Type 0 where
-  pub says : toldAnswer (r .answer) ≡ toldBy m (replyOf m n x)
-  pub stopped : r .place ≡ placeOf (walk reader [] 0 0 (take n m))
+-- what is answered under x, and the place at which the walk stopped
+pub record Judges (P : Profile) (m : List ℕ) (n : ℕ) (x : Terms) (r : Judged) : Type 0 where
+  pub says : toldAnswer (r .answer) ≡ toldBy m (replyOf P m n x)
+  pub stopped : r .place ≡ placeOf (walked (reader P) (take n m))
 
 -- what the reader answers to one that offered these protocols and algorithms, and the table afterwards
-pub record Reads (m : List ℕ) (n : ℕ) (protocols algorithms table : List ℕ) (r : Answer) (table′ : List ℕ) : Type 0 where
-  pub says : toldAnswer r ≡ toldBy m (replyOf m n (offering protocols algorithms (roomOf table)))
-  pub left : table′ ≡ tableAfter (replyOf m n (offering protocols algorithms (roomOf table))) table
+pub record Reads (P : Profile) (m : List ℕ) (n : ℕ) (protocols algorithms table : List ℕ) (r : Answer) (table′ : List ℕ) : Type 0 where
+  pub says : toldAnswer r ≡ toldBy m (replyOf P m n (offering protocols algorithms (roomOf table)))
+  pub left : table′ ≡ tableAfter (replyOf P m n (offering protocols algorithms (roomOf table))) table
 
 -- the two numbers that a reply names
-abbrev pub Names : List ℕ → ℕ → Named → Type 0
-Names m n r = (r .protocol .0 ≡ namedBy 1 m n) × (r .algorithm .0 ≡ namedBy 4 m n)
+abbrev pub Names : Profile → List ℕ → ℕ → Named → Type 0
+Names P m n r = (r .protocol .0 ≡ namedBy P 1 m n) × (r .algorithm .0 ≡ namedBy P 4 m n)

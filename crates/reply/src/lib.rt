@@ -6,6 +6,7 @@ use nts::NtsError;
 use nts::Refusal;
 use record::NtsRecord;
 use record::Part;
+use record::Profile;
 use walk::ENDING;
 use walk::NOTED;
 use walk::ONCE;
@@ -52,7 +53,7 @@ pub enum Answer {
     Refused(Refusal),
 }
 
-// An answer, and the place of the record at which the walk stopped: the end record, or the one refused.
+// An answer, and the place at which the walk stopped: that of the end record, or of what was refused.
 pub struct Judged {
     pub answer: Answer,
     pub place: usize,
@@ -84,18 +85,20 @@ pub const RULES: [u8; 15] = [
 ];
 
 impl KeyExchangeResponse {
-    // Reads a reply as if the message were cut after `limit` bytes. The protocol and the algorithm that it names must be among those that were offered.
+    // Reads a reply in a profile as if the message were cut after `limit` bytes. The protocol and the algorithm that it names must be among those that were offered.
     // The cookies of an accepted reply go into the table, two cells a cookie, start and length, in message order; nothing else changes a cell.
     pub fn parse(
+        profile: Profile,
         message: &[u8],
         limit: u16,
         protocols: &[u16],
         algorithms: &[u16],
         table: &mut [u16],
     ) -> Answer
-        ensures { λ r. ⌜ Reads (now (message .entry)) limit (now (protocols .entry)) (now (algorithms .entry)) (now (table .entry)) r (now (table .exit)) ⌝ }
+        ensures { λ r. ⌜ Reads profile (now (message .entry)) limit (now (protocols .entry)) (now (algorithms .entry)) (now (table .entry)) r (now (table .exit)) ⌝ }
     {
         let judged = KeyExchangeResponse::judge(
+            profile,
             message,
             limit,
             protocols,
@@ -114,16 +117,17 @@ impl KeyExchangeResponse {
 
     // What `parse` answers with room for so many cookies, and where the walk stopped.
     pub fn judge(
+        profile: Profile,
         message: &[u8],
         limit: u16,
         protocols: &[u16],
         algorithms: &[u16],
         room: usize,
     ) -> Judged
-        ensures { λ r. ⌜ Judges (now (message .entry)) limit (offering (now (protocols .entry)) (now (algorithms .entry)) room) r ⌝ }
+        ensures { λ r. ⌜ Judges profile (now (message .entry)) limit (offering (now (protocols .entry)) (now (algorithms .entry)) room) r ⌝ }
     {
         let mut cells = [0u16; 45];
-        let walked = walk_into(message, limit, &mut cells);
+        let walked = walk_into(profile, message, limit, &mut cells);
         let place = walked.place;
         let stop = walked.stop;
         match stop {
@@ -139,11 +143,11 @@ impl KeyExchangeResponse {
     }
 
     // The protocol and the algorithm that a reply names, 0 where it names none. Whether it is accepted is not asked.
-    pub fn named(message: &[u8], limit: u16) -> Named
-        ensures { λ r. ⌜ Names (now (message .entry)) limit r ⌝ }
+    pub fn named(profile: Profile, message: &[u8], limit: u16) -> Named
+        ensures { λ r. ⌜ Names profile (now (message .entry)) limit r ⌝ }
     {
         let mut cells = [0u16; 45];
-        walk_into(message, limit, &mut cells);
+        walk_into(profile, message, limit, &mut cells);
         Named {
             protocol: NextProtocol(number_in(
                 message,
@@ -158,11 +162,11 @@ impl KeyExchangeResponse {
 }
 
 // The walk by this reader's table, with what it found in the cells.
-fn walk_into(message: &[u8], limit: u16, cells: &mut [u16; 45]) -> Walked
-    ensures { λ r. ⌜ toldFinding (asFinding r (now (cells .exit))) ≡ foundBy reader (now (message .entry)) limit ⌝ }
+fn walk_into(profile: Profile, message: &[u8], limit: u16, cells: &mut [u16; 45]) -> Walked
+    ensures { λ r. ⌜ toldFinding (asFinding r (now (cells .exit))) ≡ foundBy (reader profile) (now (message .entry)) limit ⌝ }
 {
     let rules = RULES;
-    walk::walk(&rules, message, limit, cells)
+    walk::walk(profile, &rules, message, limit, cells)
 }
 
 fn refused(error: NtsError, place: usize) -> Answer

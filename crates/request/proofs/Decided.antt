@@ -13,14 +13,13 @@ use Rattle.wire.specs.Bytes.{numberAt}
 use Rattle.wire.proofs.Bytes.{number-drop, number-take}
 use Rattle.nts.specs.Refusal.{Beside, nothing, code}
 use Rattle.nts.specs.Algorithm.{describe, toldDescription}
-use Rattle.layout.specs.Table.{rowOf, shapeOf, isUnknown}
+use Rattle.layout.specs.Table.{rowOf, shapeOf}
 use Rattle.layout.specs.declared.Part.{Part}
 use Rattle.nts.specs.declared.AlgorithmDescription.{AlgorithmDescription}
 use Rattle.nts.specs.declared.Description.{Description}
 use Rattle.nts.specs.declared.Description.the-variants.{Known, Unknown}
 use Rattle.walk.specs.Walk.{Sighting}
 use Rattle.walk.specs.Judge.{Verdict, no, yes, some, withFirst, bodyIn, partOf, placed}
-use Rattle.walk.specs.Table.{known}
 use Rattle.walk.specs.Rules.{isNoted}
 use Rattle.walk.specs.Found.{entryIn, firstIn, toldIn}
 use Rattle.walk.specs.Code.{Fits}
@@ -41,12 +40,12 @@ refusedAt n b at = refusedWith (record { number = n; beside = b; place = at })
 -- ---- over the records noted
 
 -- two lists for each kind that the table notes, alike
-module _ (m : List ℕ) (at room : ℕ) (l l′ : ℕ → List Sighting) (h : (k : ℕ) → k < 15 → known k ≡ true → isNoted (getD rules k 0) ≡ true → Like (l k) (l′ k)) where
-  alike : (k : ℕ) → k < 15 → known k ≡ true → isNoted (getD rules k 0) ≡ true → some (l k) ≡ some (l′ k)
+module _ (m : List ℕ) (at room : ℕ) (l l′ : ℕ → List Sighting) (h : (k : ℕ) → k < 15 → eqb k 11 ≡ false → isNoted (getD rules k 0) ≡ true → Like (l k) (l′ k)) where
+  alike : (k : ℕ) → k < 15 → eqb k 11 ≡ false → isNoted (getD rules k 0) ≡ true → some (l k) ≡ some (l′ k)
   alike k b n i = like-some (l k) (l′ k) (h k b n i)
 
   like-support : told m at (supportBy l) ≡ told m at (supportBy l′)
-  unfolding known isUnknown shapeOf rowOf isNoted
+  unfolding isNoted
   like-support =
       like-first (told m at) (l 14) (l′ 14) (h 14 (omega arith) refl refl) _ _ _ _ refl
       (λ u. like-if (told m at) (some (l 12) || some (l 1) || some (l 4)) (some (l′ 12) || some (l′ 1) || some (l′ 4))
@@ -54,7 +53,7 @@ module _ (m : List ℕ) (at room : ℕ) (l l′ : ℕ → List Sighting) (h : (k
       (rw (alike 9 (omega arith) refl refl, alike 10 (omega arith) refl refl, alike 8 (omega arith) refl refl)))
 
   like-exchange : told m at (exchangeBy room l) ≡ told m at (exchangeBy room l′)
-  unfolding known isUnknown shapeOf rowOf isNoted
+  unfolding isNoted
   like-exchange =
       let n = h 13 (omega arith) refl refl .long in
       like-first (told m at) (l 1) (l′ 1) (h 1 (omega arith) refl refl) _ _ _ _ refl
@@ -62,7 +61,7 @@ module _ (m : List ℕ) (at room : ℕ) (l l′ : ℕ → List Sighting) (h : (k
       (λ a. like-if (told m at) _ _ (ap (ltb room) n) _ _ _ _ refl (ap (keyExchangeIs (partOf p) (partOf a)) n)))
 
   like-keys : (x : Sighting) → told m at (keysBy (bodyIn m) l x) ≡ told m at (keysBy (bodyIn m) l′ x)
-  unfolding known isUnknown shapeOf rowOf isNoted
+  unfolding isNoted
   like-keys x =
       like-first (told m at) (l 14) (l′ 14) (h 14 (omega arith) refl refl) _ _ _ _ refl
       (λ u. like-first (told m at) (l 1) (l′ 1) (h 1 (omega arith) refl refl) _ _ _ _ refl
@@ -70,7 +69,7 @@ module _ (m : List ℕ) (at room : ℕ) (l l′ : ℕ → List Sighting) (h : (k
       (λ a. ap (λ (k : Bool). told m at (fixedBy (bodyIn m) u x a p k)) (alike 8 (omega arith) refl refl))))
 
   pub decided-like : toldBy m (placed at (decide room (bodyIn m) l)) ≡ toldBy m (placed at (decide room (bodyIn m) l′))
-  unfolding decide known isUnknown shapeOf rowOf isNoted
+  unfolding decide isNoted
   decided-like =
       like-if (told m at) (some (l 9) || some (l 10)) (some (l′ 9) || some (l′ 10)) (rw (alike 9 (omega arith) refl refl, alike 10 (omega arith) refl refl)) _ _ _ _
       like-support
@@ -157,13 +156,13 @@ one-number : (m : List ℕ) (x : Sighting) → x .len ≡ 2 → numberAt (bodyIn
 one-number m x e = number-take (drop (x .start) m) (x .len) 0 (omega arith) ∙ number-drop m (x .start) 0 ∙ ap (numberAt m) (add-zero (x .start))
 
 module _ (c : List ℕ) (at : ℕ) (m : List ℕ) (fit : Fits rules (length m) c) where
-  long : (k : ℕ) → k < 15 → known k ≡ true → isNoted (getD rules k 0) ≡ true → length (bodyIn m (firstIn c k)) ≡ entryIn c k .len
+  long : (k : ℕ) → k < 15 → eqb k 11 ≡ false → isNoted (getD rules k 0) ≡ true → length (bodyIn m (firstIn c k)) ≡ entryIn c k .len
   unfolding Fits
   long k l kn nt = body-length m (firstIn c k) (fit k l kn nt)
 
   pub keys-by : told m at (keysBy (bodyIn m) (toldIn c) (firstIn c 12))
       ≡ cond (some (toldIn c 14)) (cond (isOne (entryIn c 1)) (cond (isOne (entryIn c 4)) (told m at (fixedIn (bodyIn m) c)) (refusedAt 4 nothing at)) (refusedAt 4 nothing at)) (refusedAt 4 nothing at)
-  unfolding isOne fixedBy known isUnknown shapeOf rowOf isNoted
+  unfolding isOne fixedBy isNoted
   keys-by =
       rw (told-first c 14, told-first c 1, told-first c 4, told-some c 14, long 1 (omega arith) refl refl, long 4 (omega arith) refl refl)
       (go (eqb (entryIn c 14 .count) 0) (eqb (entryIn c 1 .count) 0) (eqb (entryIn c 4 .count) 0) (eqb (entryIn c 1 .len) 2) (eqb (entryIn c 4 .len) 2) _)
@@ -182,7 +181,7 @@ module _ (c : List ℕ) (at : ℕ) (m : List ℕ) (fit : Fits rules (length m) c
   -- a is the algorithm's number, and d what is known of it
   module _ (l1 : entryIn c 1 .len ≡ 2) (l4 : entryIn c 4 .len ≡ 2) (a : ℕ) (d : Description) (ea : a ≡ numberAt m (entryIn c 4 .start)) (ed : toldDescription d ≡ describe a) where
     keyed-by : told m at (fixedIn (bodyIn m) c) ≡ told m at (keyed (toldDescription d) a (entryIn c 12 .len / 2) (fixedKey (firstIn c 14) (firstIn c 12) (firstIn c 4) (firstIn c 1) (some (toldIn c 8))))
-    unfolding fixedBy known isUnknown shapeOf rowOf isNoted
+    unfolding fixedBy isNoted
     keyed-by =
         let n : numberAt (bodyIn m (firstIn c 4)) 0 ≡ a = one-number m (firstIn c 4) l4 ∙ sym ea in
         rw (long 1 (omega arith) refl refl, long 4 (omega arith) refl refl, long 12 (omega arith) refl refl, eq-eqb (entryIn c 1 .len) 2 l1, eq-eqb (entryIn c 4 .len) 2 l4, n, ed)

@@ -10,6 +10,7 @@ use lib.Dec.{ltb, eqb}
 use Rattle.wire.specs.Bytes.{numberAt}
 use Rattle.nts.specs.Refusal.{nothing}
 use Rattle.nts.specs.Algorithm.{Described, known, unknown, describe}
+use Rattle.layout.specs.declared.Profile.{Profile}
 use Rattle.walk.specs.Walk.{ends, passes, notes, refuses}
 use Rattle.walk.specs.Judge.{Verdict, no, yes, some}
 use Rattle.walk.proofs.Laws.{mapVerdict, Lawful}
@@ -60,9 +61,9 @@ module _ {A : Type 0} (f : A → List ℕ) where
 
 -- ---- the laws
 
-pub request-lawful : Lawful reader judging
+pub request-lawful : (P : Profile) → Lawful (reader P) judging
 unfolding decide once
-request-lawful = record {
+request-lawful P = record {
   natural = λ u f l. decide-map f (u .terms .room) l;
   stable = λ u l l′ h n. rw (h 1 refl, h 4 refl, h 9 refl, h 10 refl, h 12 refl, h 13 refl, h 14 refl, some-length (l 8) (l′ 8) (n 8));
 }

@@ -8,4 +8,5 @@ pub mod Lawful
 pub mod Order
 pub mod Within
 pub mod Numbered
+pub mod StrictNumbers
 pub mod Deciding

@@ -12,8 +12,9 @@ use borrow.Author.Tests.{ltb-false}
 use Rattle.nts.specs.Refusal.{nothing}
 use Rattle.nts.specs.Algorithm.{Described, unknown}
 use Rattle.nts.specs.Algorithm as algorithm
-use Rattle.walk.specs.Walk.{Sighting, Outcome, stopped, ended, walk}
-use Rattle.walk.specs.Judge.{Under, Verdict, no, yes, some, withFirst, ofKind, bodyIn, Answer, accepted, finish, readBy, roomFor}
+use Rattle.walk.specs.Walk.{Sighting, Outcome, stopped, ended, walked}
+use Rattle.walk.specs.Judge.{Under, Verdict, no, yes, some, withFirst, ofKind, bodyIn, Answer, accepted, finish, readAs, readBy, roomFor}
+use Rattle.layout.specs.declared.Profile.{Profile}
 use Rattle.walk.proofs.Demand3.{Ordered, ordered}
 use Rattle.walk.proofs.Noted.{Inside, kind-inside}
 use Rattle.walk.proofs.Verdicts as verdicts
@@ -30,11 +31,11 @@ abbrev pub reading : List ℕ → Under → Answer Form
 reading m u = readBy reader judging m u
 
 -- of what is lent it is asked for the room alone
-pub room-alone : (m : List ℕ) (u : Under) → readBy reader judging m u ≡ request m (u .limit) (u .terms .room)
-unfolding request readBy finish
-room-alone m u = go (walk reader [] 0 0 (take (u .limit) m))
+pub room-alone : (m : List ℕ) (u : Under) → readBy reader judging m u ≡ request (u .profile) m (u .limit) (u .terms .room)
+unfolding request readAs finish
+room-alone m u = go (walked (reader (u .profile)) (take (u .limit) m))
   where
-    go : (o : Outcome) → finish judging u m o ≡ finish judging (record { limit = u .limit; terms = roomFor (u .terms .room) }) m o
+    go : (o : Outcome) → finish judging u m o ≡ finish judging (record { profile = u .profile; limit = u .limit; terms = roomFor (u .terms .room) }) m o
     go (stopped r) = refl
     go (ended at next st) = refl
 
@@ -87,8 +88,8 @@ InsideForm N (keyExchange p a d) = Inside N (p ∷ a ∷ d)
 InsideForm N (fixedKey u x a p k) = Inside N (u ∷ x ∷ a ∷ p ∷ [])
 InsideForm N (support u p a k) = Inside N (u ∷ [])
 
-pub accepted-inside : (m : List ℕ) (n room : ℕ) (q : Form Sighting) → request m n room ≡ accepted q → InsideForm (length m) q
+pub accepted-inside : (P : Profile) (m : List ℕ) (n room : ℕ) (q : Form Sighting) → request P m n room ≡ accepted q → InsideForm (length m) q
 unfolding request
-accepted-inside m n room q =
-    accepted-held judging (InsideForm (length m)) reader m (record { limit = n; terms = roomFor room }) q
+accepted-inside P m n room q =
+    accepted-held judging (InsideForm (length m)) (reader P) m (record { profile = P; limit = n; terms = roomFor room }) q
     (λ st i. decide-held (length m) room (λ k. ofKind k st) (λ k. kind-inside (length m) k st i) (InsideForm (length m)) (λ u h p a k. h) (λ u x a p h k. h) (λ p a h r. h) (bodyIn m))

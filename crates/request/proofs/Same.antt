@@ -22,5 +22,5 @@ Request-judge-same κs a r r′ e e′ p q =
     let y = finding-apart (r .finding) (r′ .finding) (p .found ∙ sym (q .found)) in
     λ i. record { answer = x i; finding = y i }
 
-pub Request-parse-same : (κs : _) (a : _) (r r′ : _) (e e′ : _) → parse.Learnt κs a r e → parse.Learnt κs a r′ e′ → (r ≡ r′) × (now (e .1 .1 .0) ≡ now (e′ .1 .1 .0))
+pub Request-parse-same : (κs : _) (a : _) (r r′ : _) (e e′ : _) → parse.Learnt κs a r e → parse.Learnt κs a r′ e′ → (r ≡ r′) × (now (e .1 .1 .1 .0) ≡ now (e′ .1 .1 .1 .0))
 Request-parse-same κs a r r′ e e′ p q = (answer-apart r r′ (p .says ∙ sym (q .says)), p .left ∙ sym (q .left))

@@ -1,4 +1,4 @@
--- A request: 01, "From records to a request".
+-- A request: 01, "From records to a request", in a profile: 02, order 5.
 use Prim.Native.Nat.{ℕ, _+_, _/_}
 use mathlib.Core.Path.{_≡_}
 use mathlib.Core.List.{List, [], _∷_, map}
@@ -10,6 +10,8 @@ use Rattle.wire.specs.Over.{over}
 use Rattle.nts.specs.Refusal.{nothing, code, Refused, toldRefusal}
 use Rattle.nts.specs.Algorithm.{Described, known, unknown, describe}
 use Rattle.layout.specs.declared.Part.{Part}
+use Rattle.layout.specs.declared.Profile.{Profile}
+use Rattle.layout.specs.declared.Profile.the-variants.{Usual}
 use Rattle.walk.specs.Walk.{Act, passes, notes, refuses, Reader, Sighting}
 use Rattle.walk.specs.Judge as judge
 use Rattle.walk.specs.Judge.{Verdict, no, yes, roomFor, Judge, some, withFirst, bodyIn, partOf, readBy}
@@ -34,7 +36,7 @@ act k b = cond (eqb k 2 || eqb k 3 || eqb k 5) (refuses 4 nothing) (cond (eqb k 
 unfoldable pub once : ℕ → Bool
 once k = eqb k 1 || eqb k 4 || eqb k 9 || eqb k 10 || eqb k 12 || eqb k 14
 
-abbrev pub reader : Reader
+abbrev pub reader : Profile → Reader
 reader = tableReader act once
 
 -- the same as the table of a walk, by kind
@@ -115,9 +117,9 @@ decide room val l =
 abbrev pub judging : Judge
 judging = record { Q = Form; mapQ = λ {A} {B} f q. mapForm f q; decide = λ u {A} val l. decide (u .terms .room) val l }
 
--- a message m read as if it were cut after n bytes, with a table that has room for so many names
-unfoldable pub request : List ℕ → ℕ → ℕ → judge.Answer Form
-request m n room = readBy reader judging m (record { limit = n; terms = roomFor room })
+-- a message m read in a profile as if it were cut after n bytes, with a table that has room for so many names
+unfoldable pub request : Profile → List ℕ → ℕ → ℕ → judge.Answer Form
+request P m n room = readBy reader judging m (record { profile = P; limit = n; terms = roomFor room })
 
 -- ---- what is answered
 
@@ -168,11 +170,11 @@ tableAfter x table = over (cells (namesOf x)) table
 -- ---- deciding from a finding: 02, order 2
 
 -- 9, first of all, for a finding that is not what the walk gives over the message under the finding's own limit; otherwise the reader's answer under that
--- limit
+-- limit. Both are of the usual profile
 unfoldable pub decided : Found → List ℕ → ℕ → judge.Answer Form
 decided f m room =
-    cond (sameFound (foundBy reader m (f .limit)) f)
-    (request m (f .limit) room)
+    cond (sameFound (foundBy (reader Usual) m (f .limit)) f)
+    (request Usual m (f .limit) room)
     (judge.refused (record { number = 9; beside = nothing; place = 0 }))
 
 -- ---- the contracts
@@ -183,14 +185,14 @@ pub record Answers (m : List ℕ) (x : judge.Answer Form) (table : List ℕ) (r 
   pub left : table′ ≡ tableAfter x table
 
 -- by the reader: of a message cut after n bytes
-abbrev pub Reads : List ℕ → ℕ → List ℕ → Answer → List ℕ → Type 0
-Reads m n table r table′ = Answers m (request m n (roomOf table)) table r table′
+abbrev pub Reads : Profile → List ℕ → ℕ → List ℕ → Answer → List ℕ → Type 0
+Reads P m n table r table′ = Answers m (request P m n (roomOf table)) table r table′
 
 -- by the second call: from a finding
 abbrev pub Decides : Found → List ℕ → List ℕ → Answer → List ℕ → Type 0
 Decides f m table r table′ = Answers m (decided f m (roomOf table)) table r table′
 
 -- what is answered with room for so many names, and the finding
-pub record Judges (m : List ℕ) (n room : ℕ) (r : Judged) : Type 0 where
-  pub says : toldAnswer (r .answer) ≡ toldBy m (request m n room)
-  pub found : toldFinding (r .finding) ≡ foundBy reader m n
+pub record Judges (P : Profile) (m : List ℕ) (n room : ℕ) (r : Judged) : Type 0 where
+  pub says : toldAnswer (r .answer) ≡ toldBy m (request P m n room)
+  pub found : toldFinding (r .finding) ≡ foundBy (reader P) m n

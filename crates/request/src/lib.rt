@@ -7,6 +7,7 @@ use nts::NtsError;
 use nts::Refusal;
 use record::NtsRecord;
 use record::Part;
+use record::Profile;
 use walk::ENDING;
 use walk::Finding;
 use walk::NOTED;
@@ -85,13 +86,13 @@ pub const RULES: [u8; 15] = [
 ];
 
 impl Request {
-    // Walks over a message as if it were cut after `limit` bytes until a record ends it or is refused, and hands back what it found: also of a message
-    // that is not accepted.
+    // Walks over a message, in the usual profile, as if it were cut after `limit` bytes until a record ends it or is refused, and hands back what it found: also of a
+    // message that is not accepted.
     pub fn walk(message: &[u8], limit: u16) -> Finding
-        ensures { λ r. ⌜ toldFinding r ≡ foundBy reader (now (message .entry)) limit ⌝ }
+        ensures { λ r. ⌜ toldFinding r ≡ foundBy (reader Profile.Usual) (now (message .entry)) limit ⌝ }
     {
         let mut cells = [0u16; 45];
-        let walked = walk_into(message, limit, &mut cells);
+        let walked = walk_into(Profile::Usual, message, limit, &mut cells);
         let place = walked.place;
         let stop = walked.stop;
         Finding {
@@ -102,7 +103,7 @@ impl Request {
         }
     }
 
-    // What `parse` answers under the finding's limit, with the table as it leaves it. 9, before all others and changing no cell, where the finding is not
+    // What `parse` answers in the usual profile under the finding's limit, with the table as it leaves it. 9, before all others and changing no cell, where the finding is not
     // what `walk` gives over the message under that limit.
     pub fn decide(finding: Finding, message: &[u8], table: &mut [u16]) -> Answer
         ensures { λ r. ⌜ Decides (toldFinding finding) (now (message .entry)) (now (table .entry)) r (now (table .exit)) ⌝ }
@@ -116,28 +117,28 @@ impl Request {
                 place: again.place,
                 stop,
             };
-            return settle(walked, &cells, message, table);
+            return settle(Profile::Usual, walked, &cells, message, table);
         }
         refused(NtsError::InvalidValue, 0)
     }
 
-    // Reads a request as if the message were cut after `limit` bytes. The names that an accepted key-exchange request denies
-    // go into the table, two cells a name, start and length, in message order; nothing else changes a cell.
-    pub fn parse(message: &[u8], limit: u16, table: &mut [u16]) -> Answer
-        ensures { λ r. ⌜ Reads (now (message .entry)) limit (now (table .entry)) r (now (table .exit)) ⌝ }
+    // Reads a request in a profile as if the message were cut after `limit` bytes. The names that an accepted key-exchange request denies
+    // go into the table, two cells a name, start and length, in message order; nothing else changes a cell. The strict profile knows no such names.
+    pub fn parse(profile: Profile, message: &[u8], limit: u16, table: &mut [u16]) -> Answer
+        ensures { λ r. ⌜ Reads profile (now (message .entry)) limit (now (table .entry)) r (now (table .exit)) ⌝ }
     {
         let mut cells = [0u16; 45];
-        let walked = walk_into(message, limit, &mut cells);
-        settle(walked, &cells, message, table)
+        let walked = walk_into(profile, message, limit, &mut cells);
+        settle(profile, walked, &cells, message, table)
     }
 
     // What `parse` answers with room for so many names, and the finding.
-    pub fn judge(message: &[u8], limit: u16, room: usize) -> Judged
-        ensures { λ r. ⌜ Judges (now (message .entry)) limit room r ⌝ }
+    pub fn judge(profile: Profile, message: &[u8], limit: u16, room: usize) -> Judged
+        ensures { λ r. ⌜ Judges profile (now (message .entry)) limit room r ⌝ }
     {
         let mut cells = [0u16; 45];
-        let walked = walk_into(message, limit, &mut cells);
-        let answer = decision(walked, &cells, message, room);
+        let walked = walk_into(profile, message, limit, &mut cells);
+        let answer = decision(profile, walked, &cells, message, room);
         let place = walked.place;
         let stop = walked.stop;
         let finding = Finding {
@@ -151,20 +152,26 @@ impl Request {
 }
 
 // The walk by this reader's table, with what it found in the cells.
-fn walk_into(message: &[u8], limit: u16, cells: &mut [u16; 45]) -> Walked
-    ensures { λ r. ⌜ toldFinding (asFinding r (now (cells .exit))) ≡ foundBy reader (now (message .entry)) limit ⌝ }
+fn walk_into(profile: Profile, message: &[u8], limit: u16, cells: &mut [u16; 45]) -> Walked
+    ensures { λ r. ⌜ toldFinding (asFinding r (now (cells .exit))) ≡ foundBy (reader profile) (now (message .entry)) limit ⌝ }
 {
     let rules = RULES;
-    walk::walk(&rules, message, limit, cells)
+    walk::walk(profile, &rules, message, limit, cells)
 }
 
 // The answer that the walk's own finding decides, and the names put into the table.
-fn settle(walked: Walked, cells: &[u16; 45], message: &[u8], table: &mut [u16]) -> Answer
-    requires { ⌜ toldFinding (asFinding walked (now cells)) ≡ foundBy reader (now message) (walked .limit) ⌝ }
-    ensures { λ r. ⌜ Reads (now (message .entry)) (walked .limit) (now (table .entry)) r (now (table .exit)) ⌝ }
+fn settle(
+    profile: Profile,
+    walked: Walked,
+    cells: &[u16; 45],
+    message: &[u8],
+    table: &mut [u16],
+) -> Answer
+    requires { ⌜ toldFinding (asFinding walked (now cells)) ≡ foundBy (reader profile) (now message) (walked .limit) ⌝ }
+    ensures { λ r. ⌜ Reads profile (now (message .entry)) (walked .limit) (now (table .entry)) r (now (table .exit)) ⌝ }
 {
     let place = walked.place;
-    let answer = decision(walked, cells, message, table.len() / 2);
+    let answer = decision(profile, walked, cells, message, table.len() / 2);
     let denied = denied_in(answer);
     if denied == 0 {
         return answer;
@@ -179,9 +186,15 @@ fn settle(walked: Walked, cells: &[u16; 45], message: &[u8], table: &mut [u16]) 
 }
 
 // The decision from the walk's own finding, with room for so many names: what stopped the walk, or, after the end record, what was found.
-fn decision(walked: Walked, cells: &[u16; 45], message: &[u8], room: usize) -> Answer
-    requires { ⌜ toldFinding (asFinding walked (now cells)) ≡ foundBy reader (now message) (walked .limit) ⌝ }
-    ensures { λ r. ⌜ toldAnswer r ≡ toldBy (now (message .entry)) (request.request (now (message .entry)) (walked .limit) room) ⌝ }
+fn decision(
+    profile: Profile,
+    walked: Walked,
+    cells: &[u16; 45],
+    message: &[u8],
+    room: usize,
+) -> Answer
+    requires { ⌜ toldFinding (asFinding walked (now cells)) ≡ foundBy (reader profile) (now message) (walked .limit) ⌝ }
+    ensures { λ r. ⌜ toldAnswer r ≡ toldBy (now (message .entry)) (request.request profile (now (message .entry)) (walked .limit) room) ⌝ }
 {
     let place = walked.place;
     let stop = walked.stop;

@@ -2,6 +2,10 @@
 -- Assumes nothing.
 use mathlib.Core.Path.{_≡_, sym, _∙_}
 use Rattle.utf8.proofs.is_utf8.Reads as is-utf8
+use Rattle.utf8.proofs.is_ascii.Reads as is-ascii
 
 pub is-utf8-same : (κs : _) (a : _) (r r′ : _) (e e′ : _) → is-utf8.Learnt κs a r e → is-utf8.Learnt κs a r′ e′ → r ≡ r′
 is-utf8-same κs a r r′ e e′ p q = p ∙ sym q
+
+pub is-ascii-same : (κs : _) (a : _) (r r′ : _) (e e′ : _) → is-ascii.Learnt κs a r e → is-ascii.Learnt κs a r′ e′ → r ≡ r′
+is-ascii-same κs a r r′ e e′ p q = p ∙ sym q

@@ -1,10 +1,10 @@
 // A checker of UTF-8, after RFC 3629, section 4. There is no limit on its input.
 ghost use mathlib.Core.Path.{_≡_};
-ghost use mathlib.Core.Bool.{true};
 ghost use Prim.Native.Nat.{_<_, _≤_};
 ghost use lib.ListN.{length};
 ghost use Rattle.utf8.specs.Utf8.{tail, wellFormed};
-ghost use Rattle.utf8.specs.Lead.{leadSize, second, sizeOf, sizeAt, Ascii, Passed};
+ghost use Rattle.utf8.specs.Ascii.{isAscii};
+ghost use Rattle.utf8.specs.Lead.{leadSize, second, sizeOf, sizeAt, Passed};
 
 // How many bytes a block of ASCII has, in the first pass over blocks, the second and the third.
 const LARGE: usize = 128;
@@ -102,8 +102,8 @@ fn after_ascii(s: &[u8], at: usize) -> usize
 }
 
 // Whether all of the bytes are ASCII, told by one pass without a way out of it, which takes many bytes at a time.
-fn is_ascii(s: &[u8]) -> bool
-    ensures { λ r. ⌜ (r ≡ true → Ascii (now (s .entry)) (length (now (s .entry)))) ⌝ }
+pub fn is_ascii(s: &[u8]) -> bool
+    ensures { λ r. ⌜ r ≡ isAscii (now (s .entry)) ⌝ }
 {
     let mut all = true;
     let mut i = 0;

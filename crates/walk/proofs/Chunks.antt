@@ -9,7 +9,7 @@ use lib.ListN.{length, drop, length-append, length-drop, List·getD-append}
 use lib.Seq.{drop-at, drop-append-le, take-append-le}
 use borrow.Author.Tests.{le-ltb}
 use Rattle.wire.specs.Bytes.{numberAt}
-use Rattle.record.specs.Record.{kind, critical, size, there}
+use Rattle.record.specs.Record.{kind, critical, size, there, faultBy}
 use Rattle.walk.specs.Walk.{Reader, faultIn, actIn, Sighting, Outcome, Step, stops, goes, judge, step, walk}
 use Rattle.walk.specs.Message.{Whole, Each, flat}
 use Rattle.walk.proofs.Unroll.{after, unroll}
@@ -44,7 +44,7 @@ module _ (c r : List ℕ) (whole : Whole c) where
 
   module _ (R : Reader) where
     pub fault-append : faultIn R (c ++ r) ≡ faultIn R c
-    unfolding faultIn
+    unfolding faultBy
     fault-append =
         let long : 4 ≤ length (c ++ r) = simp length-append (omega arith) in
         rw (kind-append c r header, size-append c r header, there-append, le-ltb (length (c ++ r)) 4 long, le-ltb (length c) 4 header)

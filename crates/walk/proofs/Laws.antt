@@ -4,19 +4,21 @@
 use mathlib.Core.Path.{_≡_, refl, sym, _∙_, ap}
 use mathlib.Core.List.{List, [], _∷_, _++_, map, append-assoc, List·Permᴰ}
 use mathlib.Core.Bool.{Bool, true, false, _&&_, _||_, cond}
-use Prim.Native.Nat.{ℕ, _+_, _-_, _≤_}
+use Prim.Native.Nat.{ℕ, _+_, _-_, _<_, _≤_}
 use native.Mathlib.Omega.{arith}
 use native.Mathlib.Nat.{zero-add}
-use lib.ListN.{length, take, drop, length-take, take-append-drop}
+use lib.ListN.{length, take, drop, length-append, length-take, take-append-drop}
 use lib.Seq.{drop-drop, drop-at}
-use lib.Dec.{eqb}
-use Rattle.nts.specs.Refusal.{Beside}
+use lib.Dec.{ltb, eqb}
+use borrow.Author.Tests.{ltb-false}
+use Rattle.nts.specs.Refusal.{Beside, nothing}
 use Rattle.record.specs.Record.{kind, there}
-use Rattle.walk.specs.Walk.{ends, passes, refuses, Reader, faultIn, actIn, Sighting, Outcome, stopped, ended, stops, meet, judge, step, walk}
-use Rattle.walk.specs.Judge.{Verdict, no, yes, Under, Judge, ofKind, bodyIn, refused, accepted, placed, finish, readBy}
+use Rattle.walk.specs.Walk.{ends, passes, refuses, Reader, faultIn, actIn, Sighting, Outcome, stopped, ended, stops, meet, judge, step, walk, behind, walked}
+use Rattle.walk.specs.Judge.{Verdict, no, yes, Under, Judge, ofKind, bodyIn, refused, accepted, placed, finish, readAs}
 use Rattle.walk.specs.Message.{Whole, Each, flat, message, Parts, contents, Shows}
+use Rattle.walk.proofs.Behind.{follows, none-follows, stopped-walked, ended-walked}
 use Rattle.walk.proofs.Chunks.{size-append, there-append, each-map, unroll-chunk, walk-run}
-use Rattle.walk.proofs.Passing.{reached, isCalm, calm-goes, sightingAt, seenIn, noted, Passed, sightingsIn, run-passed, take-over, Inner, Last, reached-passed, split}
+use Rattle.walk.proofs.Passing.{reached, isCalm, calm-goes, sightingAt, seenIn, noted, Passed, sightingsIn, run-passed, take-over, Inner, Past, Last, reached-passed, split}
 use Rattle.walk.proofs.Reorder.{passed-perm, bodiesOf, count-perm, once-perm, passed-insert, bodies-insert, passed-front}
 use Rattle.walk.proofs.Reorder.{each-perm, each-insert, each-front, flat-perm}
 
@@ -102,25 +104,35 @@ module _ (R : Reader) where
   -- a record that is refused by itself, after records that the walk passes
   pub read-refused : (D : Judge) (u : Under) (cs : List (List ℕ)) (x t : List ℕ) (k : ℕ) (b : Beside) → Each (Inner R) cs → Passed R (seenIn []) cs → Whole x
       → faultIn R x ≡ 0 → actIn R x ≡ refuses k b → length (flat cs) + length x ≤ u .limit
-      → readBy R D (message cs x t) u ≡ refused (record { number = k; beside = b; place = length (flat cs) })
-  unfolding readBy finish
+      → readAs R D (message cs x t) u ≡ refused (record { number = k; beside = b; place = length (flat cs) })
+  unfolding readAs finish
   read-refused D u cs x t k b i p w z a f =
-      rw (walk-stops (u .limit) cs x t _ i p w f (step-refused (sightingsIn R 0 cs) (length (flat cs)) k b x z a))
+      ap (finish D u (message cs x t)) (stopped-walked R (take (u .limit) (message cs x t)) _ (walk-stops (u .limit) cs x t _ i p w f (step-refused (sightingsIn R 0 cs) (length (flat cs)) k b x z a)))
 
 -- ---- a message that is accepted
 
-pub accepted-reached : (R : Reader) (D : Judge) (m : List ℕ) (u : Under) (q : D .Q Sighting) → readBy R D m u ≡ accepted q
+pub accepted-reached : (R : Reader) (D : Judge) (m : List ℕ) (u : Under) (q : D .Q Sighting) → readAs R D m u ≡ accepted q
     → reached (walk R [] 0 0 (take (u .limit) m)) ≡ true
-unfolding readBy finish
+unfolding readAs walked behind finish
 accepted-reached R D m u q h = go (walk R [] 0 0 (take (u .limit) m)) h
   where
-    go : (o : Outcome) → finish D u m o ≡ accepted q → reached o ≡ true
+    go : (o : Outcome) → finish D u m (behind R (take (u .limit) m) o) ≡ accepted q → reached o ≡ true
     go (stopped r) g = cc
     go (ended at next st) g = refl
 
--- it is whole records that do not end it, one that does, within the limit, and a tail
-pub accepted-parts : (R : Reader) (D : Judge) (m : List ℕ) (u : Under) (q : D .Q Sighting) → readBy R D m u ≡ accepted q
-    → Parts (Inner R) (Last R) m (u .limit)
+-- no byte follows its end record where none may
+accepted-alone : (R : Reader) (D : Judge) (m : List ℕ) (u : Under) (q : D .Q Sighting) (at next : ℕ) (st : List Sighting) → readAs R D m u ≡ accepted q
+    → walk R [] 0 0 (take (u .limit) m) ≡ ended at next st → follows R (take (u .limit) m) next ≡ false
+unfolding readAs walked behind finish
+accepted-alone R D m u q at next st h w = go (follows R (take (u .limit) m) next) refl (sym (ap (λ (o : Outcome). finish D u m (behind R (take (u .limit) m) o)) w) ∙ h)
+  where
+    go : (b : Bool) → follows R (take (u .limit) m) next ≡ b → finish D u m (cond b (stopped (record { number = 18; beside = nothing; place = next })) (ended at next st)) ≡ accepted q → follows R (take (u .limit) m) next ≡ false
+    go true e z = let o : _≡_ {A = ℕ} 0 1 = cc in absurd (omega arith)
+    go false e z = e
+
+-- it is whole records that the walk passes, one that ends it, within the limit, and a tail
+pub accepted-parts : (R : Reader) (D : Judge) (m : List ℕ) (u : Under) (q : D .Q Sighting) → readAs R D m u ≡ accepted q
+    → Parts (Past R) (Last R) m (u .limit)
 accepted-parts R D m u q h = record {
   front = p .front;
   last = p .last;
@@ -131,7 +143,7 @@ accepted-parts R D m u q h = record {
   fits = omega (arith, p .fits, length-take (u .limit) m);
 }
   where
-    p : Parts (Inner R) (Last R) (take (u .limit) m) (length (take (u .limit) m))
+    p : Parts (Past R) (Last R) (take (u .limit) m) (length (take (u .limit) m))
     p = split R [] 0 (take (u .limit) m) (accepted-reached R D m u q h)
 
 module _ (R : Reader) (D : Judge) (L : Lawful R D) where
@@ -147,6 +159,10 @@ module _ (R : Reader) (D : Judge) (L : Lawful R D) where
     pub fits : length (flat cs) + length e ≤ u .limit
     pub shows : shown u cs ≡ yes x
 
+  -- no byte of the tail lies inside the limit, where none may follow the end record
+  abbrev pub Silent : Under → List (List ℕ) → List ℕ → List ℕ → Type 0
+  Silent u cs e t = follows R (take (u .limit) (message cs e t)) (length (flat cs) + length e) ≡ false
+
   module _ (u : Under) (cs : List (List ℕ)) (e t : List ℕ) (inner : Each (Inner R) cs) (last : Last R e) where
     abbrev m : List ℕ
     m = message cs e t
@@ -160,25 +176,32 @@ module _ (R : Reader) (D : Judge) (L : Lawful R D) where
         L .natural u (bodyIn m) (λ k. ofKind k (sightingsIn R 0 cs))
         ∙ ap (D .decide u (λ (b : List ℕ). b)) (λ j k. bodies-noted R m (e ++ t) k 0 cs (wholes R cs inner) refl j)
 
-    read-verdict : Passed R (seenIn []) cs → length (flat cs) + length e ≤ u .limit → readBy R D m u ≡ placed (length (flat cs)) verdict
-    unfolding readBy finish
-    read-verdict p f =
-        let s = step-last R (sightingsIn R 0 cs) (length (flat cs)) e last in
-        rw (walk-stops R (u .limit) cs e t _ inner p (last .0) f s)
+    walk-last : Passed R (seenIn []) cs → length (flat cs) + length e ≤ u .limit
+        → walk R [] 0 0 (take (u .limit) m) ≡ ended (length (flat cs)) (length (flat cs) + length e) (sightingsIn R 0 cs)
+    walk-last p f = walk-stops R (u .limit) cs e t _ inner p (last .0) f (step-last R (sightingsIn R 0 cs) (length (flat cs)) e last)
+
+    read-verdict : Passed R (seenIn []) cs → length (flat cs) + length e ≤ u .limit → Silent u cs e t → readAs R D m u ≡ placed (length (flat cs)) verdict
+    unfolding readAs finish
+    read-verdict p f z = ap (finish D u m) (ended-walked R (take (u .limit) m) (length (flat cs)) (length (flat cs) + length e) (sightingsIn R 0 cs) (walk-last p f) z)
 
     -- refused after the end record, at its place
-    pub decided-no : (k : ℕ) (b : Beside) → Passed R (seenIn []) cs → length (flat cs) + length e ≤ u .limit → shown u cs ≡ no k b
-        → readBy R D m u ≡ refused (record { number = k; beside = b; place = length (flat cs) })
-    decided-no k b p f s = read-verdict p f ∙ ap (placed (length (flat cs))) (go verdict (verdict-shown ∙ s))
+    pub decided-no : (k : ℕ) (b : Beside) → Passed R (seenIn []) cs → length (flat cs) + length e ≤ u .limit → Silent u cs e t → shown u cs ≡ no k b
+        → readAs R D m u ≡ refused (record { number = k; beside = b; place = length (flat cs) })
+    decided-no k b p f z s = read-verdict p f z ∙ ap (placed (length (flat cs))) (go verdict (verdict-shown ∙ s))
       where
         go : (v : Verdict (D .Q) Sighting) → mapVerdict D (bodyIn m) v ≡ no k b → v ≡ no k b
         go (no j c) h = cc
         go (yes q) h = cc
 
-    pub accepted-good : (q : D .Q Sighting) → readBy R D m u ≡ accepted q → Good u cs e (contents D m q)
+    pub accepted-silent : (q : D .Q Sighting) → readAs R D m u ≡ accepted q → Silent u cs e t
+    accepted-silent q h =
+        let r = reached-passed R [] 0 (u .limit) cs e t inner (last .0) (accepted-reached R D m u q h) in
+        accepted-alone R D m u q (length (flat cs)) (length (flat cs) + length e) (sightingsIn R 0 cs) h (walk-last (r .1) (r .0))
+
+    pub accepted-good : (q : D .Q Sighting) → readAs R D m u ≡ accepted q → Good u cs e (contents D m q)
     accepted-good q h =
         let r = reached-passed R [] 0 (u .limit) cs e t inner (last .0) (accepted-reached R D m u q h) in
-        let v : verdict ≡ yes q = placed-yes verdict (sym (read-verdict (r .1) (r .0)) ∙ h) in
+        let v : verdict ≡ yes q = placed-yes verdict (sym (read-verdict (r .1) (r .0) (accepted-silent q h)) ∙ h) in
         let s : shown u cs ≡ yes (contents D m q) = sym verdict-shown ∙ ap (mapVerdict D (bodyIn m)) v in
         record { inner = inner; last = last; passed = r .1; fits = r .0; shows = s }
       where
@@ -187,12 +210,12 @@ module _ (R : Reader) (D : Judge) (L : Lawful R D) where
         placed-yes (yes q′) g = cc
 
   module _ (u : Under) (e : List ℕ) (x : D .Q (List ℕ)) where
-    pub good-shows : (cs : List (List ℕ)) (t : List ℕ) → Good u cs e x → Shows R D (message cs e t) u x
-    good-shows cs t g =
+    pub good-shows : (cs : List (List ℕ)) (t : List ℕ) → Good u cs e x → Silent u cs e t → Shows R D (message cs e t) u x
+    good-shows cs t g z =
         let v = verdict u cs e t (g .inner) (g .last) in
-        go v (read-verdict u cs e t (g .inner) (g .last) (g .passed) (g .fits)) (verdict-shown u cs e t (g .inner) (g .last) ∙ g .shows)
+        go v (read-verdict u cs e t (g .inner) (g .last) (g .passed) (g .fits) z) (verdict-shown u cs e t (g .inner) (g .last) ∙ g .shows)
       where
-        go : (v : Verdict (D .Q) Sighting) → readBy R D (message cs e t) u ≡ placed (length (flat cs)) v
+        go : (v : Verdict (D .Q) Sighting) → readAs R D (message cs e t) u ≡ placed (length (flat cs)) v
             → mapVerdict D (bodyIn (message cs e t)) v ≡ yes x → Shows R D (message cs e t) u x
         go (no k b) a h = let z : _≡_ {A = ℕ} 0 1 = cc in absurd (omega arith)
         go (yes q) a h = (q, a, cc)
@@ -230,8 +253,39 @@ module _ (R : Reader) (D : Judge) (L : Lawful R D) where
           }
 
       pub insert-refused : (k : ℕ) (b : Beside) (t : List ℕ) → actIn R c ≡ refuses k b → length (flat xs) + length c ≤ u .limit
-          → readBy R D (message xs c t) u ≡ refused (record { number = k; beside = b; place = length (flat xs) })
+          → readAs R D (message xs c t) u ≡ refused (record { number = k; beside = b; place = length (flat xs) })
       insert-refused k b t a f =
           let i = each-front (Inner R) xs ys (g .inner) in
           let p = passed-front R (seenIn []) xs ys (g .passed) in
           read-refused R D u xs c t k b i p whole faultless a f
+
+-- ---- a tail in which nothing follows
+
+module _ (R : Reader) (D : Judge) (L : Lawful R D) (u : Under) (e t : List ℕ) where
+  abbrev Quiet : List (List ℕ) → Type 0
+  Quiet cs = Silent R D L u cs e t
+
+  message-long : (cs : List (List ℕ)) → length (message cs e t) ≡ length (flat cs) + (length e + length t)
+  message-long cs = length-append (flat cs) (e ++ t) ∙ ap (λ (n : ℕ). length (flat cs) + n) (length-append e t)
+
+  -- where any byte may follow
+  pub silent-any : (cs : List (List ℕ)) → R .final ≡ false → Quiet cs
+  silent-any cs h = rw h
+
+  -- as behind records that are as long
+  pub silent-same : (cs cs′ : List (List ℕ)) → length (flat cs) ≡ length (flat cs′) → Quiet cs → Quiet cs′
+  silent-same cs cs′ h q =
+      let k : length (take (u .limit) (message cs e t)) ≡ length (take (u .limit) (message cs′ e t)) =
+      omega (arith, length-take (u .limit) (message cs e t), length-take (u .limit) (message cs′ e t), message-long cs, message-long cs′) in
+      (λ i. R .final && ltb (sym h i + length e) (sym k i)) ∙ q
+
+  -- as behind records that are longer, through whose end it still fits
+  pub silent-longer : (cs cs′ : List (List ℕ)) → length (flat cs) < length (flat cs′) → length (flat cs′) + length e ≤ u .limit → Quiet cs → Quiet cs′
+  silent-longer cs cs′ h f q = go (R .final) refl
+    where
+      go : (b : Bool) → R .final ≡ b → Quiet cs′
+      go false z = rw z
+      go true z =
+          let s : length (take (u .limit) (message cs e t)) ≤ length (flat cs) + length e = ltb-false _ _ (rw z at q) in
+          none-follows R (take (u .limit) (message cs′ e t)) (length (flat cs′) + length e)
+          (omega (arith, s, length-take (u .limit) (message cs e t), length-take (u .limit) (message cs′ e t), message-long cs, message-long cs′))

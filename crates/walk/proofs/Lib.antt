@@ -1,12 +1,13 @@
 pub mod Unroll
+pub mod Behind
 pub mod Chunks
 pub mod Faultless
 pub mod Passing
 pub mod Reorder
 pub mod Laws
-pub mod Known
 pub mod Demand3
 pub mod Noted
+pub mod Unnoted
 pub mod Verdicts
 pub mod Written
 pub mod Looking

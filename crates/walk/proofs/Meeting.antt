@@ -11,17 +11,19 @@ use lib.Dec.{ltb, leb, eqb}
 use borrow.Author.Tests.{eqb-true, eqb-false, eq-eqb, ne-eqb, lt-ltb, leb-false, le-leb}
 use Rattle.nts.specs.Refusal.{nothing, code, numberOf, besideOf}
 use Rattle.nts.specs.declared.NtsError.{NtsError}
-use Rattle.record.specs.Record.{kind, critical, size, there, fault, Value, number, valueOf, seenOf}
+use Rattle.layout.specs.Profile.{asksOf, shapeIn, knows, allows}
+use Rattle.record.specs.Record.{kind, critical, size, there, Value, number, valueOf, seenOf, faultBy}
 use Rattle.walk.specs.Walk.{Act, ends, passes, notes, refuses, Sighting, stopped, ended, Step, stops, goes, has, meet, judge, step, faultIn, actIn}
 use Rattle.walk.specs.Judge.{ofKind, some}
-use Rattle.walk.specs.Table.{known}
 use Rattle.record.proofs.Whole.{there-length}
 use Rattle.walk.proofs.Noted.{sighting}
-use Rattle.walk.specs.Rules.{tellAct, ruleAct, isNoted, actAt, onceAt, readerOf}
-use Rattle.walk.specs.Code.{Asked, atMost, ruledOf, verdictOf}
+use Rattle.walk.specs.Table.{meaning}
+use Rattle.walk.specs.Rules.{Rules, entryOf, tellAct, ruleAct, isNoted, actAt, onceAt, readerOf}
+use Rattle.walk.specs.Code.{Asked, atMost, ruledOf, meantOf, verdictOf}
 use Rattle.walk.specs.Shown.{slotOf}
-use Rattle.walk.proofs.Known.{eleven-unknown}
-use Rattle.walk.proofs.Looking.{Asks}
+use Rattle.layout.specs.declared.Profile.{Profile}
+use Rattle.layout.proofs.Profiles.{eleven-unknown}
+use Rattle.walk.proofs.Looking.{slot-known, Asks}
 use Rattle.walk.specs.declared.Verdict.{Verdict}
 use Rattle.walk.specs.declared.Verdict.the-variants.{On, End, Stop}
 
@@ -34,17 +36,17 @@ stepOf at n st more End = stops (ended at (at + (4 + n)) st)
 stepOf at n st more (Stop e) = stops (stopped (record { number = numberOf e; beside = besideOf e; place = at }))
 
 -- what a table notes of a record that is passed
-unfoldable pub moreOf : List ℕ → ℕ → ℕ → ℕ → List Sighting
-moreOf rules at k n = cond (known k && isNoted (getD rules k 0)) (sighting k at n ∷ []) []
+unfoldable pub moreOf : Rules → ℕ → ℕ → ℕ → List Sighting
+moreOf rules at k n = cond (knows (rules .profile) k && isNoted (entryOf rules k)) (sighting k at n ∷ []) []
 
 once-step : (b : Bool) (at n : ℕ) (st more : List Sighting) → cond b (stops (stopped (record { number = 4; beside = nothing; place = at }))) (goes (st ++ more)) ≡ stepOf at n st more (cond b (Stop NtsError.Invalid) On)
 once-step true at n st more = refl
 once-step false at n st more = refl
 
-module _ (rules : List ℕ) (st : List Sighting) (at k n before : ℕ) (b : List ℕ) (told : NtsError) (kn : known k ≡ true)
-    (tells : getD rules k 0 ≡ 5 → tellAct k b ≡ refuses (numberOf told) (besideOf told)) (whole : length b ≡ n)
-    (same : isNoted (getD rules k 0) ≡ true → has k st ≡ ltb 0 before) where
-  by-rule : (r : ℕ) → getD rules k 0 ≡ r → meet (readerOf rules) st at k n (ruleAct r k b) ≡ stepOf at n st (moreOf rules at k n) (ruledOf r before n told)
+module _ (rules : Rules) (st : List Sighting) (at k n before : ℕ) (b : List ℕ) (told : NtsError) (kn : knows (rules .profile) k ≡ true)
+    (tells : entryOf rules k ≡ 5 → tellAct k b ≡ refuses (numberOf told) (besideOf told)) (whole : length b ≡ n)
+    (same : isNoted (entryOf rules k) ≡ true → has k st ≡ ltb 0 before) where
+  by-rule : (r : ℕ) → entryOf rules k ≡ r → meet (readerOf rules) st at k n (ruleAct r k b) ≡ stepOf at n st (moreOf rules at k n) (ruledOf r before n told)
   unfolding meet ruleAct ruledOf isNoted onceAt moreOf atMost
   by-rule zero e = refl
   by-rule (suc zero) e = rw (kn, e, append-nil st)
@@ -68,50 +70,66 @@ module _ (rules : List ℕ) (st : List Sighting) (at k n before : ℕ) (b : List
       let no : (j : ℕ) → j ≤ 5 → eqb (suc (suc (suc (suc (suc (suc r)))))) j ≡ false = λ j h. ne-eqb _ j (λ q. omega arith) in
       simp (no 0 (omega arith), no 1 (omega arith), no 2 (omega arith), no 3 (omega arith), no 4 (omega arith), no 5 (omega arith))
 
-pub not-eleven : (k : ℕ) → known k ≡ true → eqb k 11 ≡ false
-not-eleven k h = ne-eqb k 11 (λ e. true≢false (sym h ∙ ap known e ∙ eleven-unknown))
+pub not-eleven : (P : Profile) (k : ℕ) → knows P k ≡ true → eqb k 11 ≡ false
+not-eleven P k h = ne-eqb k 11 (λ e. true≢false (sym h ∙ ap (knows P) e ∙ eleven-unknown P))
 
-verdict-known : (r : ℕ) (x : Asked) (k before n : ℕ) → x .slot ≡ k → eqb k 11 ≡ false → verdictOf r x before n ≡ ruledOf r before n (x .told)
+-- what the profile does not allow ..
+verdict-barred : (r : ℕ) (x : Asked) (before n : ℕ) → x .allowed ≡ false → verdictOf r x before n ≡ Stop NtsError.NotAllowed
 unfolding verdictOf
-verdict-known r x k before n e h = rw (e, h)
+verdict-barred r x before n e = rw e
 
-pub verdict-unknown : (r : ℕ) (x : Asked) (bit : Bool) (before n : ℕ) → x .slot ≡ 11 → x .critical ≡ bit → verdictOf r x before n ≡ cond bit (Stop NtsError.UnrecognizedCriticalRecord) On
-unfolding verdictOf
-verdict-unknown r x bit before n e h = rw (e, h)
+-- .. a known kind that it allows, and an unknown one
+verdict-known : (r : ℕ) (x : Asked) (k before n : ℕ) → x .allowed ≡ true → x .slot ≡ k → eqb k 11 ≡ false → verdictOf r x before n ≡ ruledOf r before n (x .told)
+unfolding verdictOf meantOf
+verdict-known r x k before n a e h = rw (a, e, h)
 
-module _ (rules : List ℕ) (at : ℕ) (t : List ℕ) (z : fault t ≡ 0) (x : Asked) (l : Asks rules x t) where
+verdict-unknown : (r : ℕ) (x : Asked) (bit : Bool) (before n : ℕ) → x .allowed ≡ true → x .slot ≡ 11 → x .critical ≡ bit → verdictOf r x before n ≡ cond bit (Stop NtsError.UnrecognizedCriticalRecord) On
+unfolding verdictOf meantOf
+verdict-unknown r x bit before n a e h = rw (a, e, h)
+
+module _ (rules : Rules) (at : ℕ) (t : List ℕ) (z : faultIn (readerOf rules) t ≡ 0) (x : Asked) (l : Asks rules x t) where
+  abbrev allowed : Bool
+  allowed = allows (asksOf (rules .profile) (kind t)) (critical t) (there t)
+
   step-by : (st : List Sighting) → step (readerOf rules) st at t ≡ meet (readerOf rules) st at (kind t) (size t) (actAt rules (kind t) (critical t) (there t))
-  unfolding step judge faultIn actIn fault
+  unfolding step judge actIn
   step-by st = rw z
 
   -- the walk's step, by what the code decides
-  pub step-is : (st : List Sighting) (before : ℕ) → (known (kind t) ≡ true → isNoted (getD rules (kind t) 0) ≡ true → has (kind t) st ≡ ltb 0 before)
-      → step (readerOf rules) st at t ≡ stepOf at (size t) st (moreOf rules at (kind t) (size t)) (verdictOf (getD rules (x .slot) 0) x before (size t))
-  unfolding actAt slotOf moreOf meet
-  step-is st before same = step-by st ∙ go (known (kind t)) refl
+  pub step-is : (st : List Sighting) (before : ℕ) → (knows (rules .profile) (kind t) ≡ true → isNoted (entryOf rules (kind t)) ≡ true → has (kind t) st ≡ ltb 0 before)
+      → step (readerOf rules) st at t ≡ stepOf at (size t) st (moreOf rules at (kind t) (size t)) (verdictOf (entryOf rules (x .slot)) x before (size t))
+  unfolding actAt moreOf meet
+  step-is st before same = step-by st ∙ by-allowed allowed refl
     where
       unknown-step : (b : Bool) → meet (readerOf rules) st at (kind t) (size t) (cond b (refuses 3 nothing) passes) ≡ stepOf at (size t) st [] (cond b (Stop NtsError.UnrecognizedCriticalRecord) On)
       unknown-step true = refl
       unknown-step false = rw (append-nil st)
 
-      go : (kn : Bool) → known (kind t) ≡ kn → meet (readerOf rules) st at (kind t) (size t) (cond kn (ruleAct (getD rules (kind t) 0) (kind t) (there t)) (cond (critical t) (refuses 3 nothing) passes))
-          ≡ stepOf at (size t) st (moreOf rules at (kind t) (size t)) (verdictOf (getD rules (x .slot) 0) x before (size t))
-      go true h =
-          let i : x .slot ≡ kind t = l .slot ∙ ap (λ (b : Bool). cond b (kind t) 11) h in
-          by-rule rules st at (kind t) (size t) before (there t) (x .told) h (λ r. l .tells h) (there-length t z) (same h) (getD rules (kind t) 0) refl
+      go : x .allowed ≡ true → (kn : Bool) → knows (rules .profile) (kind t) ≡ kn
+          → meet (readerOf rules) st at (kind t) (size t) (meaning kn (critical t) (ruleAct (entryOf rules (kind t)) (kind t) (there t)))
+          ≡ stepOf at (size t) st (moreOf rules at (kind t) (size t)) (verdictOf (entryOf rules (x .slot)) x before (size t))
+      go a true h =
+          let i : x .slot ≡ kind t = l .slot ∙ slot-known rules (kind t) true h in
+          by-rule rules st at (kind t) (size t) before (there t) (x .told) h (λ r. l .tells h) (there-length (shapeIn (rules .profile)) t z) (same h) (entryOf rules (kind t)) refl
           ∙ ap (stepOf at (size t) st (moreOf rules at (kind t) (size t)))
-          (sym (verdict-known (getD rules (x .slot) 0) x (kind t) before (size t) i (not-eleven (kind t) h) ∙ ap (λ (j : ℕ). ruledOf (getD rules j 0) before (size t) (x .told)) i))
-      go false h =
+          (sym (verdict-known (entryOf rules (x .slot)) x (kind t) before (size t) a i (not-eleven (rules .profile) (kind t) h) ∙ ap (λ (j : ℕ). ruledOf (entryOf rules j) before (size t) (x .told)) i))
+      go a false h =
           rw (h) (unknown-step (critical t))
           ∙ ap (stepOf at (size t) st (moreOf rules at (kind t) (size t)))
-          (sym (verdict-unknown (getD rules (x .slot) 0) x (critical t) before (size t) (l .slot ∙ ap (λ (b : Bool). cond b (kind t) 11) h) (l .bit)))
+          (sym (verdict-unknown (entryOf rules (x .slot)) x (critical t) before (size t) a (l .slot ∙ slot-known rules (kind t) false h) (l .bit)))
+
+      by-allowed : (w : Bool) → allowed ≡ w
+          → meet (readerOf rules) st at (kind t) (size t) (cond w (meaning (knows (rules .profile) (kind t)) (critical t) (ruleAct (entryOf rules (kind t)) (kind t) (there t))) (refuses 18 nothing))
+          ≡ stepOf at (size t) st (moreOf rules at (kind t) (size t)) (verdictOf (entryOf rules (x .slot)) x before (size t))
+      by-allowed true w = go (l .allows ∙ w) (knows (rules .profile) (kind t)) refl
+      by-allowed false w = sym (ap (stepOf at (size t) st (moreOf rules at (kind t) (size t))) (verdict-barred (entryOf rules (x .slot)) x before (size t) (l .allows ∙ w)))
 
 -- a record that does not read stops it
-pub step-fault : (rules : List ℕ) (st : List Sighting) (at : ℕ) (t : List ℕ) → (fault t ≡ 0 → ⊥) → step (readerOf rules) st at t ≡ stops (stopped (record { number = fault t; beside = nothing; place = at }))
-unfolding step judge faultIn fault
-step-fault rules st at t n = go (fault t) refl
+pub step-fault : (rules : Rules) (st : List Sighting) (at : ℕ) (t : List ℕ) → (faultIn (readerOf rules) t ≡ 0 → ⊥) → step (readerOf rules) st at t ≡ stops (stopped (record { number = faultIn (readerOf rules) t; beside = nothing; place = at }))
+unfolding step judge faultBy
+step-fault rules st at t n = go (faultIn (readerOf rules) t) refl
   where
-    go : (f : ℕ) → fault t ≡ f → judge (readerOf rules) st at t f ≡ stops (stopped (record { number = f; beside = nothing; place = at }))
+    go : (f : ℕ) → faultIn (readerOf rules) t ≡ f → judge (readerOf rules) st at t f ≡ stops (stopped (record { number = f; beside = nothing; place = at }))
     go zero e = absurd (n e)
     go (suc f) e = refl
 
@@ -139,13 +157,16 @@ ruled-end (suc (suc (suc (suc (suc r))))) before n told q =
     let other : (j : ℕ) → j ≤ 4 → eqb (suc (suc (suc (suc (suc r))))) j ≡ false = λ j h. ne-eqb _ j (λ p. omega arith) in
     simp (other 2 (omega arith), other 3 (omega arith), other 4 (omega arith))
 
-pub end-unnoted : (rules : List ℕ) (at before : ℕ) (t : List ℕ) (x : Asked) → Asks rules x t → verdictOf (getD rules (x .slot) 0) x before (size t) ≡ End → moreOf rules at (kind t) (size t) ≡ []
-unfolding moreOf slotOf
-end-unnoted rules at before t x l q = go (known (kind t)) refl
+pub end-unnoted : (rules : Rules) (at before : ℕ) (t : List ℕ) (x : Asked) → Asks rules x t → verdictOf (entryOf rules (x .slot)) x before (size t) ≡ End → moreOf rules at (kind t) (size t) ≡ []
+unfolding moreOf
+end-unnoted rules at before t x l q = go (x .allowed) refl (knows (rules .profile) (kind t)) refl
   where
-    go : (kn : Bool) → known (kind t) ≡ kn → cond (kn && isNoted (getD rules (kind t) 0)) (sighting (kind t) at (size t) ∷ []) [] ≡ []
-    go true h =
-        let i : x .slot ≡ kind t = l .slot ∙ ap (λ (b : Bool). cond b (kind t) 11) h in
-        let v = verdict-known (getD rules (x .slot) 0) x (kind t) before (size t) i (not-eleven (kind t) h) ∙ ap (λ (j : ℕ). ruledOf (getD rules j 0) before (size t) (x .told)) i in
-        rw (ruled-end (getD rules (kind t) 0) before (size t) (x .told) (sym v ∙ q))
-    go false h = refl
+    go : (a : Bool) → x .allowed ≡ a → (kn : Bool) → knows (rules .profile) (kind t) ≡ kn → cond (kn && isNoted (entryOf rules (kind t))) (sighting (kind t) at (size t) ∷ []) [] ≡ []
+    go true a true h =
+        let i : x .slot ≡ kind t = l .slot ∙ slot-known rules (kind t) true h in
+        let v = verdict-known (entryOf rules (x .slot)) x (kind t) before (size t) a i (not-eleven (rules .profile) (kind t) h) ∙ ap (λ (j : ℕ). ruledOf (entryOf rules j) before (size t) (x .told)) i in
+        rw (ruled-end (entryOf rules (kind t)) before (size t) (x .told) (sym v ∙ q))
+    go false a true h =
+        let e : Stop NtsError.NotAllowed ≡ End = sym (verdict-barred (entryOf rules (x .slot)) x before (size t) a) ∙ q in
+        let o : _≡_ {A = ℕ} 0 1 = cc in absurd (omega arith)
+    go a b false h = refl

@@ -10,8 +10,7 @@ use lib.ListN.{length, drop, length-append, length-drop}
 use lib.Seq.{drop-drop}
 use borrow.Author.Tests.{eqb-true, eq-eqb, ne-eqb}
 use Rattle.nts.specs.Refusal.{nothing, Refused}
-use Rattle.layout.specs.Table.{shapeOf}
-use Rattle.record.specs.Record.{kind, critical, size, fault, whole, broken, lookFrom, lookAt}
+use Rattle.record.specs.Record.{kind, critical, size, whole, broken, lookFrom, lookAt}
 use Rattle.record.proofs.Inverse.{whole-was, broken-was}
 use Rattle.record.proofs.Read.{look-inside}
 use Rattle.walk.specs.Walk.{Act, ends, passes, notes, refuses, Reader, Sighting, Outcome, stopped, ended, Step, stops, goes, has, meet, judge, step, faultIn, actIn, walk}
@@ -64,16 +63,13 @@ place-between R st at zero (b ∷ s) N i l = go (step R st at (b ∷ s)) refl (�
 
 -- ---- what it meets
 
-module _ (act : ℕ → Bool → List ℕ → Act) (once : ℕ → Bool) (s : List ℕ) where
-  abbrev R : Reader
-  R = record { shape = shapeOf; act = act; once = once }
-
+module _ (R : Reader) (s : List ℕ) where
   -- a record that does not read is not met
-  pub meets-none : (st : List Sighting) (at : ℕ) (r : Refused) → broken r ≡ lookAt s at → shown R st at 0 (drop at s) ≡ []
-  unfolding lookAt faultIn fault
-  meets-none st at r e = unroll-shown R st at (drop at s) ∙ rw (ne-eqb (fault (drop at s)) 0 (broken-was at (drop at s) r e .0))
+  pub meets-none : (st : List Sighting) (at : ℕ) (r : Refused) → broken r ≡ lookAt (R .shape) s at → shown R st at 0 (drop at s) ≡ []
+  unfolding lookAt
+  meets-none st at r e = unroll-shown R st at (drop at s) ∙ rw (ne-eqb (faultIn R (drop at s)) 0 (broken-was (R .shape) at (drop at s) r e .0))
 
-  module _ (st : List Sighting) (at k : ℕ) (bit : Bool) (n : ℕ) (e : whole k bit n ≡ lookAt s at) where
+  module _ (st : List Sighting) (at k : ℕ) (bit : Bool) (n : ℕ) (e : whole k bit n ≡ lookAt (R .shape) s at) where
     abbrev t : List ℕ
     t = drop at s
 
@@ -82,12 +78,12 @@ module _ (act : ℕ → Bool → List ℕ → Act) (once : ℕ → Bool) (s : Li
 
     next : at + (4 + size t) ≡ at + 4 + n
     unfolding lookAt
-    next = let w = whole-was at t k bit n e in omega (arith, w .sized)
+    next = let w = whole-was (R .shape) at t k bit n e in omega (arith, w .sized)
 
     met : shown R st at 0 t ≡ mark ∷ onward (step R st at t) (λ st′. shown R st′ (at + 4 + n) 0 (drop (at + 4 + n) s))
-    unfolding lookAt faultIn fault
+    unfolding lookAt
     met =
-        let w = whole-was at t k bit n e in
+        let w = whole-was (R .shape) at t k bit n e in
         unroll-shown R st at t ∙ rw (w .faultless, drop-drop (4 + size t) at s, next, w .is, w .marked, w .sized)
 
     walked : walk R st at 0 t ≡ after (step R st at t) (λ st′. walk R st′ (at + 4 + n) 0 (drop (at + 4 + n) s))
@@ -100,7 +96,7 @@ module _ (act : ℕ → Bool → List ℕ → Act) (once : ℕ → Bool) (s : Li
         go : (y : Step) → at ≡ placeOf (after y (λ st′. walk R st′ (at + 4 + n) 0 (drop (at + 4 + n) s))) → mark ∷ onward y (λ st′. shown R st′ (at + 4 + n) 0 (drop (at + 4 + n) s)) ≡ mark ∷ []
         go (stops o) q = refl
         go (goes st′) q =
-            let i = look-inside s at k bit n e in
+            let i = look-inside (R .shape) s at k bit n e in
             let b = place-between R st′ (at + 4 + n) 0 (drop (at + 4 + n) s) (length s) i (omega (arith, length-drop (at + 4 + n) s)) in
             absurd (omega (arith, b .0))
 
@@ -134,18 +130,18 @@ module _ (act : ℕ → Bool → List ℕ → Act) (once : ℕ → Bool) (s : Li
   later-met y z x l l₁ l₂ q = cc
 
   abbrev Looked : Mark → Type 0
-  Looked x = lookAt s (x .place) ≡ whole (x .kind) (x .critical) (x .size)
+  Looked x = lookAt (R .shape) s (x .place) ≡ whole (x .kind) (x .critical) (x .size)
 
-  looked-here : (at : ℕ) (t : List ℕ) → t ≡ drop at s → fault t ≡ 0 → Looked (markAt at t)
+  looked-here : (at : ℕ) (t : List ℕ) → t ≡ drop at s → faultIn R t ≡ 0 → Looked (markAt at t)
   unfolding lookAt lookFrom
-  looked-here at t e z = ap (lookFrom at) (sym e) ∙ rw (eq-eqb (fault t) 0 z)
+  looked-here at t e z = ap (lookFrom (R .shape) at) (sym e) ∙ rw (eq-eqb (faultIn R t) 0 z)
 
   met-looked : (st : List Sighting) (at k : ℕ) (u : List ℕ) → drop k u ≡ drop at s → (l₁ l₂ : List Mark) (x : Mark) → shown R st at k u ≡ l₁ ++ (x ∷ l₂) → Looked x
-  unfolding shown faultIn fault
+  unfolding shown
   met-looked st at k [] e l₁ l₂ x q = absurd (some-met l₁ l₂ x q)
   met-looked st at (suc k) (b ∷ u) e l₁ l₂ x q = met-looked st at k u e l₁ l₂ x q
   met-looked st at zero (b ∷ u) e l₁ l₂ x q =
-      by-fault (eqb (fault (b ∷ u)) 0) refl l₁ q (λ st′ l₃ h. met-looked st′ (at + (4 + size (b ∷ u))) (3 + size (b ∷ u)) u onwards l₃ l₂ x h)
+      by-fault (eqb (faultIn R (b ∷ u)) 0) refl l₁ q (λ st′ l₃ h. met-looked st′ (at + (4 + size (b ∷ u))) (3 + size (b ∷ u)) u onwards l₃ l₂ x h)
     where
       onwards : drop (3 + size (b ∷ u)) u ≡ drop (at + (4 + size (b ∷ u))) s
       onwards =
@@ -160,15 +156,15 @@ module _ (act : ℕ → Bool → List ℕ → Act) (once : ℕ → Bool) (s : Li
       by-step (stops o) l₃ h ih = absurd (some-met l₃ l₂ x h)
       by-step (goes st′) l₃ h ih = ih st′ l₃ h
 
-      by-first : (l₃ : List Mark) → fault (b ∷ u) ≡ 0 → markAt at (b ∷ u) ∷ rest (step R st at (b ∷ u)) ≡ l₃ ++ (x ∷ l₂)
+      by-first : (l₃ : List Mark) → faultIn R (b ∷ u) ≡ 0 → markAt at (b ∷ u) ∷ rest (step R st at (b ∷ u)) ≡ l₃ ++ (x ∷ l₂)
           → ((st′ : List Sighting) (l₄ : List Mark) → shown R st′ (at + (4 + size (b ∷ u))) (3 + size (b ∷ u)) u ≡ l₄ ++ (x ∷ l₂) → Looked x) → Looked x
       by-first [] z h ih = subst (λ (y : Mark). Looked y) (first-met (markAt at (b ∷ u)) x (rest (step R st at (b ∷ u))) l₂ h) (looked-here at (b ∷ u) e z)
       by-first (y ∷ l₃) z h ih = by-step (step R st at (b ∷ u)) l₃ (later-met (markAt at (b ∷ u)) y x (rest (step R st at (b ∷ u))) l₃ l₂ h) ih
 
-      by-fault : (t : Bool) → eqb (fault (b ∷ u)) 0 ≡ t → (l₃ : List Mark) → cond t (markAt at (b ∷ u) ∷ rest (step R st at (b ∷ u))) [] ≡ l₃ ++ (x ∷ l₂)
+      by-fault : (t : Bool) → eqb (faultIn R (b ∷ u)) 0 ≡ t → (l₃ : List Mark) → cond t (markAt at (b ∷ u) ∷ rest (step R st at (b ∷ u))) [] ≡ l₃ ++ (x ∷ l₂)
           → ((st′ : List Sighting) (l₄ : List Mark) → shown R st′ (at + (4 + size (b ∷ u))) (3 + size (b ∷ u)) u ≡ l₄ ++ (x ∷ l₂) → Looked x) → Looked x
-      by-fault true z l₃ h ih = by-first l₃ (eqb-true (fault (b ∷ u)) 0 z) h ih
+      by-fault true z l₃ h ih = by-first l₃ (eqb-true (faultIn R (b ∷ u)) 0 z) h ih
       by-fault false z l₃ h ih = absurd (some-met l₃ l₂ x h)
 
-  pub meets-looked : (l₁ l₂ : List Mark) (x : Mark) → shown R [] 0 0 s ≡ l₁ ++ (x ∷ l₂) → lookAt s (x .place) ≡ whole (x .kind) (x .critical) (x .size)
+  pub meets-looked : (l₁ l₂ : List Mark) (x : Mark) → shown R [] 0 0 s ≡ l₁ ++ (x ∷ l₂) → lookAt (R .shape) s (x .place) ≡ whole (x .kind) (x .critical) (x .size)
   meets-looked l₁ l₂ x q = met-looked [] 0 0 s refl l₁ l₂ x q

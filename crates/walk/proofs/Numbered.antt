@@ -1,4 +1,4 @@
--- A reader refuses with no other numbers than 1, 2, 3, 4 and those of its acts and of its decision; 5, 11, 12 and 17 have a number beside them, and no other has; and that
+-- A reader refuses with no other numbers than 1, 2, 3, 4, 18 in the strict profile, and those of its acts and of its decision; 5, 11, 12 and 17 have a number beside them, and no other has; and that
 -- has sixteen bits, where the message is bytes. A fault is 1 or 2, an unknown record with its bit set is 3, and a record that may stand once and stands there twice is 4.
 -- Assumes nothing.
 use mathlib.Core.Path.{_≡_, refl, sym}
@@ -15,12 +15,16 @@ use Rattle.nts.specs.Refusal.{Beside, nothing, code, protocol, algorithm, Refus
 use Rattle.layout.specs.declared.Shape.{Shape}
 use Rattle.layout.specs.declared.Shape.the-variants.{Skipped, Numbers, Number, Bytes, Name, Pairs, Halves, Unknown}
 use Rattle.layout.specs.Table.{shapeOf}
-use Rattle.record.specs.Record.{kind, critical, size, there, short, uneven, notNumber, notHalves, notUtf8, firstOf, notName, faultOf, fault}
-use Rattle.walk.specs.Walk.{Act, ends, passes, notes, refuses, Reader, faultIn, actIn, Sighting, Outcome, stopped, ended, Step, stops, goes, has, meet, judge, step, walk}
-use Rattle.walk.specs.Judge.{Verdict, no, yes, Under, Judge, ofKind, withFirst, bodyIn, refused, placed, finish, readBy}
-use Rattle.walk.specs.Table.{known, actBy}
+use Rattle.record.specs.Record.{kind, critical, size, there, short, uneven, notNumber, notHalves, notUtf8, firstOf, notName, faultOf, fault, faultBy}
+use Rattle.walk.specs.Walk.{Act, ends, passes, notes, refuses, Reader, faultIn, actIn, Sighting, Outcome, stopped, ended, Step, stops, goes, has, meet, judge, step, walk, behind, walked}
+use Rattle.walk.specs.Judge.{Verdict, no, yes, Under, Judge, ofKind, withFirst, bodyIn, refused, placed, finish, readAs}
+use Rattle.layout.specs.Profile.{asksOf, isFinal, knows, allows}
+use Rattle.layout.specs.declared.Profile.{Profile}
+use Rattle.layout.specs.declared.Profile.the-variants.{Usual, Strict}
+use Rattle.layout.proofs.Profiles.{usual-allows}
+use Rattle.walk.specs.Table.{meaning, actBy}
 use Rattle.walk.specs.Rules as rule
-use Rattle.walk.specs.Rules.{tellAct, ruleAct, actAt, readerOf}
+use Rattle.walk.specs.Rules.{Rules, entryOf, tellAct, ruleAct, actAt, readerOf}
 
 -- ---- a number beside a refusal
 
@@ -64,7 +68,7 @@ fault-few Halves n b = few (ltb (length b) (2 * (n / 2))) 1 (cond (eqb (n % 2) 0
 fault-few Unknown n b = short-few n (length b)
 
 pub record-few : (s : List ℕ) → fault s ≤ 2
-unfolding fault
+unfolding faultBy
 record-few s = few (ltb (length s) 4) 1 _ (omega arith) (fault-few (shapeOf (kind s)) (size s) (there s))
 
 -- ---- what is said of a refusal
@@ -126,10 +130,27 @@ module _ (P : ℕ → Type 0) where
   act-if s true a b p q = p
   act-if s false a b p q = q
 
+  -- 18 is told in the strict profile alone
+  abbrev pub Barred : Profile → Type 0
+  Barred Usual = Unit {0}
+  Barred Strict = P 18
+
+  allowed-by : (X : Profile) → Barred X → (k : ℕ) (c : Bool) (b : List ℕ) (a : Act) → ActBy b a → ActBy b (cond (allows (asksOf X k) c b) a (refuses 18 nothing))
+  allowed-by Usual x k c b a h = rw (usual-allows k c b) h
+  allowed-by Strict x k c b a h = act-if b (allows (asksOf Strict k) c b) a _ h (bare b 18 refl x)
+
+  meaning-by : P 3 → (known c : Bool) (b : List ℕ) (a : Act) → ActBy b a → ActBy b (meaning known c a)
+  meaning-by three known c b a h = act-if b known a _ h (act-if b c _ passes (bare b 3 refl three) tt)
+
   -- a table over the known kinds, and the rule for the unknown ones
-  pub act-by : P 3 → (f : ℕ → List ℕ → Act) → ((k : ℕ) (b : List ℕ) → ActBy b (f k b)) → (k : ℕ) (c : Bool) (b : List ℕ) → ActBy b (actBy f k c b)
+  pub act-by : P 3 → (X : Profile) → Barred X → (f : ℕ → List ℕ → Act) → ((k : ℕ) (b : List ℕ) → ActBy b (f k b)) → (k : ℕ) (c : Bool) (b : List ℕ) → ActBy b (actBy X f k c b)
   unfolding actBy
-  act-by three f h k c b = act-if b (known k) _ _ (act-if b (eqb k 0) ends _ tt (h k b)) (act-if b c _ passes (bare b 3 refl three) tt)
+  act-by three X x f h k c b = allowed-by X x k c b _ (meaning-by three (knows X k) c b _ (act-if b (eqb k 0) ends _ tt (h k b)))
+
+  pub final-by : (X : Profile) → Barred X → isFinal X ≡ true → P 18
+  unfolding isFinal
+  final-by Usual x e = absurd (true≢false (sym e))
+  final-by Strict x e = x
 
   module _ {Q : Type 0 → Type 0} {A : Type 0} (s : List ℕ) where
     pub verdict-if : (t : Bool) (v w : Verdict Q A) → VerdictBy s v → VerdictBy s w → VerdictBy s (cond t v w)
@@ -146,9 +167,9 @@ module _ (P : ℕ → Type 0) where
   later b s (stopped r) h = record { one = h .one; fits = h .fits; beside = λ z. h .beside (λ i. z (suc i)) }
   later b s (ended at next st) h = tt
 
-  module _ (p : P 1 × P 2 × P 4) (R : Reader) (acts : (k : ℕ) (c : Bool) (b : List ℕ) → ActBy b (R .act k c b)) where
+  module _ (p : P 1 × P 2 × P 4) (R : Reader) (acts : (k : ℕ) (c : Bool) (b : List ℕ) → ActBy b (R .act k c b)) (last : R .final ≡ true → P 18) where
     step-by : (st : List Sighting) (at : ℕ) (s : List ℕ) → StepBy s (step R st at s)
-    unfolding step judge meet faultIn actIn there
+    unfolding step judge meet faultBy actIn there
     step-by st at s = by-fault (faultIn R s) (few (ltb (length s) 4) 1 _ (omega arith) (fault-few (R .shape (kind s)) (size s) (there s)))
       where
         noted : (t : Bool) (l : List Sighting) → StepBy s (cond t (stops (stopped (record { number = 4; beside = nothing; place = at }))) (goes l))
@@ -179,8 +200,22 @@ module _ (P : ℕ → Type 0) where
         go (stops o) h ih = h
         go (goes st′) h ih = later b s (walk R st′ (at + (4 + size (b ∷ s))) (3 + size (b ∷ s)) s) (ih st′)
 
-    pub stopped-numbered : (s : List ℕ) (r : Refused) → walk R [] 0 0 s ≡ stopped r → Numbered P s (r .number) (r .beside)
-    stopped-numbered s r e = go (walk R [] 0 0 s) (walk-by [] 0 0 s) e
+    behind-by : (s : List ℕ) (o : Outcome) → WalkBy s o → WalkBy s (behind R s o)
+    unfolding behind
+    behind-by s (stopped r) h = h
+    behind-by s (ended at next st) h = go (R .final) refl (ltb next (length s))
+      where
+        go : (b : Bool) → R .final ≡ b → (c : Bool) → WalkBy s (cond (b && c) (stopped (record { number = 18; beside = nothing; place = next })) (ended at next st))
+        go true e true = bare s 18 refl (last e)
+        go true e false = tt
+        go false e c = tt
+
+    walked-by : (s : List ℕ) → WalkBy s (walked R s)
+    unfolding walked
+    walked-by s = behind-by s (walk R [] 0 0 s) (walk-by [] 0 0 s)
+
+    pub stopped-numbered : (s : List ℕ) (r : Refused) → walked R s ≡ stopped r → Numbered P s (r .number) (r .beside)
+    stopped-numbered s r e = go (walked R s) (walked-by s) e
       where
         go : (o : Outcome) → WalkBy s o → o ≡ stopped r → Numbered P s (r .number) (r .beside)
         go (stopped x) h q = let z : r ≡ x = cc in rw z h
@@ -189,9 +224,9 @@ module _ (P : ℕ → Type 0) where
     -- ---- a reader
 
     pub refused-numbered : (D : Judge) (m : List ℕ) (u : Under) → ((l : ℕ → List Sighting) → VerdictBy m (D .decide u (bodyIn m) l))
-        → (r : Refused) → readBy R D m u ≡ refused r → Numbered P m (r .number) (r .beside)
-    unfolding readBy finish
-    refused-numbered D m u decides r e = go (walk R [] 0 0 (take (u .limit) m)) (walk-by [] 0 0 (take (u .limit) m)) e
+        → (r : Refused) → readAs R D m u ≡ refused r → Numbered P m (r .number) (r .beside)
+    unfolding readAs finish
+    refused-numbered D m u decides r e = go (walked R (take (u .limit) m)) (walked-by (take (u .limit) m)) e
       where
         decided : (at : ℕ) (v : Verdict (D .Q) Sighting) → VerdictBy m v → placed at v ≡ refused r → Numbered P m (r .number) (r .beside)
         decided at (no n b) h q = let z : r ≡ record { number = n; beside = b; place = at } = cc in rw z h
@@ -205,7 +240,7 @@ module _ (P : ℕ → Type 0) where
 
   -- ---- the walk by a table
 
-  module _ (p : P 1 × P 2 × P 3 × P 4 × P 11 × P 12) (rules : List ℕ) where
+  module _ (p : P 1 × P 2 × P 3 × P 4 × P 11 × P 12) (rules : Rules) (x : Barred (rules .profile)) where
     tell-by : (k : ℕ) (b : List ℕ) → ActBy b (tellAct k b)
     unfolding tellAct
     tell-by k b =
@@ -223,7 +258,7 @@ module _ (P : ℕ → Type 0) where
 
     rules-by : (k : ℕ) (c : Bool) (b : List ℕ) → ActBy b (actAt rules k c b)
     unfolding actAt
-    rules-by k c b = act-if b (known k) _ _ (rule-by (getD rules k 0) k b) (act-if b c _ passes (bare b 3 refl (p .2)) tt)
+    rules-by k c b = allowed-by (rules .profile) x k c b _ (meaning-by (p .2) (knows (rules .profile) k) c b _ (rule-by (entryOf rules k) k b))
 
-    pub walk-numbered : (s : List ℕ) (r : Refused) → walk (readerOf rules) [] 0 0 s ≡ stopped r → Numbered P s (r .number) (r .beside)
-    walk-numbered = stopped-numbered (p .0, p .1, p .3) (readerOf rules) rules-by
+    pub walk-numbered : (s : List ℕ) (r : Refused) → walked (readerOf rules) s ≡ stopped r → Numbered P s (r .number) (r .beside)
+    walk-numbered = stopped-numbered (p .0, p .1, p .3) (readerOf rules) rules-by (final-by (rules .profile) x)

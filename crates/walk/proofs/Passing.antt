@@ -180,10 +180,15 @@ pub take-over : (n : ℕ) (c r : List ℕ) → length c ≤ n → take n (c ++ r
 take-over n c r h = ap (λ (k : ℕ). take k (c ++ r)) (sym (add-sub-of-le h)) ∙ take-append-add c r (n - length c)
 
 module _ (R : Reader) where
-  -- whole records that do not end a message, and one that does
+  -- a whole record that does not end a message ..
   abbrev pub Inner : List ℕ → Type 0
   Inner c = Whole c × (actIn R c ≡ ends → ⊥)
 
+  -- .. one that the walk passes ..
+  abbrev pub Past : List ℕ → Type 0
+  Past c = Whole c × (isCalm (actIn R c) ≡ true)
+
+  -- .. and one that ends it
   abbrev pub Last : List ℕ → Type 0
   Last e = Whole e × (faultIn R e ≡ 0) × (actIn R e ≡ ends)
 
@@ -218,7 +223,7 @@ module _ (R : Reader) where
   -- ---- every message that is read to its end is chunks and an end record
 
   split-by : (fuel : ℕ) (st : List Sighting) (at : ℕ) (s : List ℕ) → length s ≤ fuel → reached (walk R st at 0 s) ≡ true
-      → Parts Inner Last s (length s)
+      → Parts Past Last s (length s)
   split-by zero st at s l h = absurd (omega (arith, walk-whole R st at s h))
   split-by (suc fuel) st at s l h =
       go (step R st at c) (step-tells R st at c) (rw (unroll-chunk c r w R st at) at whole)
@@ -243,8 +248,8 @@ module _ (R : Reader) where
       whole = rw take-append-drop h
 
       go : (x : Step) → Tells R st at c x → reached (after x (λ st₁. walk R st₁ (at + length c) 0 r)) ≡ true
-          → ((st₁ : List Sighting) → reached (walk R st₁ (at + length c) 0 r) ≡ true → Parts Inner Last r (length r))
-          → Parts Inner Last s (length s)
+          → ((st₁ : List Sighting) → reached (walk R st₁ (at + length c) 0 r) ≡ true → Parts Past Last r (length r))
+          → Parts Past Last s (length s)
       go (stops o) x g later =
           record {
             front = [];
@@ -264,10 +269,10 @@ module _ (R : Reader) where
             joined =
                 sym (take-append-drop (4 + size s) s) ∙ ap (λ (m : List ℕ). c ++ m) (y .joined)
                 ∙ sym (append-assoc c (flat (y .front)) (y .last ++ y .tail));
-            each = ((w, calm-goes (actIn R c) (x .0 .calm)), y .each);
+            each = ((w, x .0 .calm), y .each);
             ends = y .ends;
             fits = simp length-append (omega (arith, y .fits, long, big, length-drop (4 + size s) s));
           }
 
-  pub split : (st : List Sighting) (at : ℕ) (s : List ℕ) → reached (walk R st at 0 s) ≡ true → Parts Inner Last s (length s)
+  pub split : (st : List Sighting) (at : ℕ) (s : List ℕ) → reached (walk R st at 0 s) ≡ true → Parts Past Last s (length s)
   split st at s h = split-by (length s) st at s (omega arith) h

@@ -21,6 +21,7 @@ use Rattle.walk.proofs.Finding.is_same.Reads as is-same
 use Rattle.walk.proofs.found.Reads as found
 use Rattle.walk.proofs.is_there.Reads as is-there
 use Rattle.walk.proofs.pass.Reads as pass
+use Rattle.walk.proofs.is_end.Reads as is-end
 use Rattle.walk.proofs.Seen.body.Reads as body
 
 -- ---- how a walk stopped
@@ -61,9 +62,9 @@ passed-apart passed.Stopped passed.Stopped e = refl
 pub cut-at-same : (κs : _) (a : _) (r r′ : _) (e e′ : _) → cut-at.Learnt κs a r e → cut-at.Learnt κs a r′ e′ → (now r ≡ now r′) × (r .ptr ≡ r′ .ptr)
 cut-at-same κs a r r′ e e′ p q = (p .holds ∙ sym (q .holds), p .place ∙ sym (q .place))
 
-pub walk-same : (κs : _) (a : _) (r r′ : _) (e e′ : _) → walk.Learnt κs a r e → walk.Learnt κs a r′ e′ → (r ≡ r′) × (now (e .1 .1 .1 .0) ≡ now (e′ .1 .1 .1 .0))
+pub walk-same : (κs : _) (a : _) (r r′ : _) (e e′ : _) → walk.Learnt κs a r e → walk.Learnt κs a r′ e′ → (r ≡ r′) × (now (e .1 .1 .1 .1 .0) ≡ now (e′ .1 .1 .1 .1 .0))
 walk-same κs a r r′ e e′ p q =
-    let x = finding-apart (asFinding r (now (e .1 .1 .1 .0))) (asFinding r′ (now (e′ .1 .1 .1 .0))) (p ∙ sym q) in
+    let x = finding-apart (asFinding r (now (e .1 .1 .1 .1 .0))) (asFinding r′ (now (e′ .1 .1 .1 .1 .0))) (p ∙ sym q) in
     ((λ i. record { limit = x i .limit; place = x i .place; stop = x i .stop }), ap (λ (f : Finding). f .cells) x)
 
 pub Finding-is-same-same : (κs : _) (a : _) (r r′ : _) (e e′ : _) → is-same.Learnt κs a r e → is-same.Learnt κs a r′ e′ → r ≡ r′
@@ -77,6 +78,9 @@ is-there-same κs a r r′ e e′ p q = p ∙ sym q
 
 pub pass-same : (κs : _) (a : _) (r r′ : _) (e e′ : _) → pass.Learnt κs a r e → pass.Learnt κs a r′ e′ → r ≡ r′
 pass-same κs a r r′ e e′ p q = passed-apart r r′ (p ∙ sym q)
+
+pub is-end-same : (κs : _) (a : _) (r r′ : _) (e e′ : _) → is-end.Learnt κs a r e → is-end.Learnt κs a r′ e′ → r ≡ r′
+is-end-same κs a r r′ e e′ p q = p ∙ sym q
 
 pub Seen-body-same : (κs : _) (a : _) (r r′ : _) (e e′ : _) → body.Learnt κs a r e → body.Learnt κs a r′ e′ → r ≡ r′
 Seen-body-same κs a r r′ e e′ p q = p ∙ sym q

@@ -9,50 +9,50 @@ use lib.ListN.{length, getD, set, length-append, length-set}
 use lib.Seq.{getD-set-same, getD-set-other}
 use lib.Dec.{ltb, eqb}
 use borrow.Author.Tests.{eqb-true, eqb-false, eq-eqb, ne-eqb, lt-ltb}
+use Rattle.layout.specs.Profile.{asksOf, shapeIn, knows, allows}
 use Rattle.record.specs.Record.{kind, size}
-use Rattle.walk.specs.Walk.{Reader, Sighting, ended, has, walk}
+use Rattle.walk.specs.Walk.{Sighting, has}
 use Rattle.walk.specs.Judge.{ofKind, some}
-use Rattle.walk.specs.Table.{known}
 use Rattle.walk.proofs.Noted.{kind-append, sighting, kind-more, has-some}
-use Rattle.walk.specs.Rules.{isNoted, readerOf}
+use Rattle.walk.specs.Rules.{Rules, entryOf, isNoted, readerOf}
 use Rattle.walk.specs.Shown.{markAt, slotOf, counted}
-use Rattle.walk.specs.Found.{seenOf, entryIn, Stands, Walks}
-use Rattle.walk.specs.Code.{putIn, moreIn}
+use Rattle.walk.specs.Found.{seenOf, entryIn, Stands}
+use Rattle.walk.specs.Code.{slotIn, putIn, moreIn}
 use Rattle.walk.specs.declared.Seen.{Seen}
-use Rattle.walk.specs.declared.Halted.{Halted}
-use Rattle.walk.proofs.Known.{eleven-unknown}
+use Rattle.layout.specs.declared.Profile.{Profile}
+use Rattle.layout.proofs.Profiles.{eleven-unknown}
 use Rattle.walk.proofs.Meeting.{moreOf}
 
 -- ---- what is noted
 
 -- of the kinds that the table notes, the same records were noted as met
-unfoldable pub Kept : List ℕ → List Sighting → List Sighting → Type 0
-Kept rules st sh = (k : ℕ) → known k ≡ true → isNoted (getD rules k 0) ≡ true → ofKind k st ≡ ofKind k sh
+unfoldable pub Kept : Rules → List Sighting → List Sighting → Type 0
+Kept rules st sh = (k : ℕ) → knows (rules .profile) k ≡ true → isNoted (entryOf rules k) ≡ true → ofKind k st ≡ ofKind k sh
 
-pub kept-start : (rules : List ℕ) → Kept rules [] []
+pub kept-start : (rules : Rules) → Kept rules [] []
 unfolding Kept
 kept-start rules k kn nt = refl
 
-eleven : (k : ℕ) → known k ≡ true → eqb 11 k ≡ false
-eleven k h = ne-eqb 11 k (λ e. true≢false (sym h ∙ ap known (sym e) ∙ eleven-unknown))
+eleven : (P : Profile) (k : ℕ) → knows P k ≡ true → eqb 11 k ≡ false
+eleven P k h = ne-eqb 11 k (λ e. true≢false (sym h ∙ ap (knows P) (sym e) ∙ eleven-unknown P))
 
-pub kept-more : (rules : List ℕ) (st sh : List Sighting) (at : ℕ) (t : List ℕ) → Kept rules st sh → Kept rules (st ++ moreOf rules at (kind t) (size t)) (sh ++ (counted (markAt at t) ∷ []))
-unfolding Kept moreOf slotOf
+pub kept-more : (rules : Rules) (st sh : List Sighting) (at : ℕ) (t : List ℕ) → Kept rules st sh → Kept rules (st ++ moreOf rules at (kind t) (size t)) (sh ++ (counted (readerOf rules .shape) (markAt at t) ∷ []))
+unfolding Kept moreOf slotOf knows
 kept-more rules st sh at t h k kn nt =
     kind-append k st (moreOf rules at (kind t) (size t))
     ∙ ap (λ (l : List Sighting). l ++ ofKind k (moreOf rules at (kind t) (size t))) (h k kn nt)
-    ∙ ap (λ (l : List Sighting). ofKind k sh ++ l) (go (known (kind t)) (isNoted (getD rules (kind t) 0)) refl refl)
-    ∙ sym (kind-more k sh (counted (markAt at t)))
+    ∙ ap (λ (l : List Sighting). ofKind k sh ++ l) (go (knows (rules .profile) (kind t)) (isNoted (entryOf rules (kind t))) refl refl)
+    ∙ sym (kind-more k sh (counted (readerOf rules .shape) (markAt at t)))
   where
     none-of : (b : Bool) (l : List Sighting) → b ≡ false → [] ≡ cond b l []
     none-of true l e = absurd (true≢false e)
     none-of false l e = refl
 
-    go : (a b : Bool) → known (kind t) ≡ a → isNoted (getD rules (kind t) 0) ≡ b → ofKind k (cond (a && b) (sighting (kind t) at (size t) ∷ []) []) ≡ cond (eqb (cond a (kind t) 11) k) (record { of = cond a (kind t) 11; start = at + 4; len = size t } ∷ []) []
+    go : (a b : Bool) → knows (rules .profile) (kind t) ≡ a → isNoted (entryOf rules (kind t)) ≡ b → ofKind k (cond (a && b) (sighting (kind t) at (size t) ∷ []) []) ≡ cond (eqb (cond a (kind t) 11) k) (record { of = cond a (kind t) 11; start = at + 4; len = size t } ∷ []) []
     go true true u v = refl
-    go true false u v = none-of (eqb (kind t) k) _ (ne-eqb (kind t) k (λ q. true≢false (sym nt ∙ ap (λ (j : ℕ). isNoted (getD rules j 0)) (sym q) ∙ v)))
-    go false true u v = none-of (eqb 11 k) _ (eleven k kn)
-    go false false u v = none-of (eqb 11 k) _ (eleven k kn)
+    go true false u v = none-of (eqb (kind t) k) _ (ne-eqb (kind t) k (λ q. true≢false (sym nt ∙ ap (λ (j : ℕ). isNoted (entryOf rules j)) (sym q) ∙ v)))
+    go false true u v = none-of (eqb 11 k) _ (eleven (rules .profile) k kn)
+    go false false u v = none-of (eqb 11 k) _ (eleven (rules .profile) k kn)
 
 -- ---- what is met
 
@@ -180,7 +180,7 @@ stands-more c sh j x o h s = record {
         ∙ ap seenOf (sym (kind-more i sh x))
 
 -- whether a record of a noted kind was met before, by the count
-pub has-count : (rules : List ℕ) (st sh : List Sighting) (f : List ℕ) (k : ℕ) → Kept rules st sh → Stands f sh → known k ≡ true → k < 15 → isNoted (getD rules k 0) ≡ true → has k st ≡ ltb 0 (entryIn f k .count)
+pub has-count : (rules : Rules) (st sh : List Sighting) (f : List ℕ) (k : ℕ) → Kept rules st sh → Stands f sh → knows (rules .profile) k ≡ true → k < 15 → isNoted (entryOf rules k) ≡ true → has k st ≡ ltb 0 (entryIn f k .count)
 unfolding Kept
 has-count rules st sh f k h s kn l nt = has-some k st ∙ ap some (h k kn nt) ∙ sym (none-count (ofKind k sh)) ∙ ap (λ (v : Seen). ltb 0 (v .count)) (sym (s .each k l))
 
@@ -201,8 +201,3 @@ pub count-few : (f : List ℕ) (sh : List Sighting) (j : ℕ) → j < 15 → Sta
 count-few f sh j h s =
     let n : entryIn f j .count ≡ length (ofKind j sh) = ap (λ (v : Seen). v .count) (s .each j h) ∙ count-length (ofKind j sh) in
     omega (arith, n, few-kind j sh)
-
--- what a caller that decides after the end has of a kind that its table notes
-pub entry-of : (rules s : List ℕ) (r : Halted) (c : List ℕ) → Walks rules s r c → (at next : ℕ) (st : List Sighting) → walk (readerOf rules) [] 0 0 s ≡ ended at next st
-    → (k : ℕ) → k < 15 → known k ≡ true → isNoted (getD rules k 0) ≡ true → entryIn c k ≡ seenOf (ofKind k st)
-entry-of rules s r c w at next st e k l kn nt = w .met .each k l ∙ ap seenOf (sym (w .noted at next st e k kn nt))

@@ -8,7 +8,7 @@ use native.Mathlib.Omega.{arith}
 use lib.ListN.{length, drop}
 use lib.Dec.{eqb}
 use Rattle.nts.specs.Refusal.{nothing}
-use Rattle.record.specs.Record.{size}
+use Rattle.record.specs.Record.{size, faultBy}
 use Rattle.walk.specs.Walk.{Reader, faultIn, Sighting, Outcome, stopped, Step, stops, goes, judge, step, walk}
 use Rattle.walk.specs.Shown.{Mark, markAt, shown}
 
@@ -25,7 +25,7 @@ walk-drop R st at zero (b ∷ s) = refl
 walk-drop R st at (suc k) (b ∷ s) = walk-drop R st at k s
 
 step-none : (R : Reader) (st : List Sighting) (at : ℕ) → step R st at [] ≡ stops (stopped (record { number = 1; beside = nothing; place = at }))
-unfolding step faultIn judge
+unfolding step faultBy judge
 step-none R st at = refl
 
 four : (n : ℕ) → 4 + n ≡ suc (3 + n)
@@ -55,7 +55,7 @@ shown-drop R st at (suc k) (b ∷ s) = shown-drop R st at k s
 
 pub unroll-shown : (R : Reader) (st : List Sighting) (at : ℕ) (s : List ℕ)
     → shown R st at 0 s ≡ cond (eqb (faultIn R s) 0) (markAt at s ∷ onward (step R st at s) (λ st′. shown R st′ (at + (4 + size s)) 0 (drop (4 + size s) s))) []
-unfolding shown faultIn
+unfolding shown faultBy
 unroll-shown R st at [] = refl
 unroll-shown R st at (b ∷ s) = ap (λ (l : List Mark). cond (eqb (faultIn R (b ∷ s)) 0) (markAt at (b ∷ s) ∷ l) []) (go (step R st at (b ∷ s)))
   where

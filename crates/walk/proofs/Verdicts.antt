@@ -7,8 +7,9 @@ use Prim.Native.Nat.{ℕ, _+_, _≤_}
 use native.Mathlib.Omega.{arith}
 use lib.ListN.{length, take, length-take}
 use Rattle.nts.specs.Refusal.{nothing}
-use Rattle.walk.specs.Walk.{Reader, Sighting, Outcome, stopped, ended, walk}
-use Rattle.walk.specs.Judge.{Verdict, no, yes, Under, Judge, ofKind, some, withFirst, bodyIn, accepted, placed, finish, readBy}
+use Rattle.walk.specs.Walk.{Reader, Sighting, Outcome, stopped, ended, walked}
+use Rattle.walk.specs.Judge.{Verdict, no, yes, Under, Judge, ofKind, some, withFirst, bodyIn, accepted, placed, finish, readAs}
+use Rattle.walk.proofs.Behind.{walked-ended}
 use Rattle.walk.proofs.Laws.{mapVerdict}
 use Rattle.walk.proofs.Noted.{Inside, walk-inside}
 
@@ -67,12 +68,12 @@ module _ (D : Judge) (P : D .Q Sighting → Type 0) where
 
   -- a message that is accepted was decided over records whose bodies lie inside it
   pub accepted-held : (R : Reader) (m : List ℕ) (u : Under) (q : D .Q Sighting)
-      → ((st : List Sighting) → Inside (length m) st → Held (D .decide u (bodyIn m) (λ k. ofKind k st))) → readBy R D m u ≡ accepted q → P q
-  unfolding readBy finish
-  accepted-held R m u q i h = go (walk R [] 0 0 (take (u .limit) m)) refl h
+      → ((st : List Sighting) → Inside (length m) st → Held (D .decide u (bodyIn m) (λ k. ofKind k st))) → readAs R D m u ≡ accepted q → P q
+  unfolding readAs finish
+  accepted-held R m u q i h = go (walked R (take (u .limit) m)) refl h
     where
-      go : (o : Outcome) → walk R [] 0 0 (take (u .limit) m) ≡ o → finish D u m o ≡ accepted q → P q
+      go : (o : Outcome) → walked R (take (u .limit) m) ≡ o → finish D u m o ≡ accepted q → P q
       go (stopped r) w e = let z : _≡_ {A = ℕ} 0 1 = cc in absurd (omega arith)
       go (ended at next st) w e =
           held-placed at (D .decide u (bodyIn m) (λ k. ofKind k st)) q
-          (i st (walk-inside R [] 0 0 (take (u .limit) m) (length m) at next st (simp length-take (omega arith)) tt w)) e
+          (i st (walk-inside R [] 0 0 (take (u .limit) m) (length m) at next st (simp length-take (omega arith)) tt (walked-ended R (take (u .limit) m) at next st w))) e

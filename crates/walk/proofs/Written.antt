@@ -11,12 +11,12 @@ use borrow.Author.Tests.{eq-eqb}
 use Rattle.nts.specs.Refusal.{Beside}
 use Rattle.record.specs.Record.{kind, there}
 use Rattle.walk.specs.Walk.{notes, Reader, faultIn, actIn, has}
-use Rattle.walk.specs.Judge.{no, yes, Under, Judge, refused, readBy}
+use Rattle.walk.specs.Judge.{no, yes, Under, Judge, refused, readAs}
 use Rattle.walk.specs.Message.{Whole, Each, flat, message, Shows}
 use Rattle.walk.proofs.Chunks.{each-map}
 use Rattle.walk.proofs.Passing.{isCalm, calm-goes, seenIn, noted, mark, Passed, Inner, Last}
 use Rattle.walk.proofs.Reorder.{bodiesOf}
-use Rattle.walk.proofs.Laws.{Lawful, shown, good-shows, decided-no}
+use Rattle.walk.proofs.Laws.{Lawful, shown, Silent, good-shows, decided-no}
 
 -- ---- what holds of each record
 
@@ -117,7 +117,7 @@ module _ (R : Reader) where
 -- ---- a message of them
 
 module _ (R : Reader) (D : Judge) (L : Lawful R D) (u : Under) (cs : List (List ℕ)) (e t : List ℕ) (l : ℕ → List (List ℕ)) (h : Noted R cs l)
-    (once : (k : ℕ) → R .once k ≡ true → length (l k) ≤ 1) (last : Last R e) (fits : length (flat cs) + length e ≤ u .limit) where
+    (once : (k : ℕ) → R .once k ≡ true → length (l k) ≤ 1) (last : Last R e) (fits : length (flat cs) + length e ≤ u .limit) (silent : Silent R D L u cs e t) where
   passed : Passed R (seenIn []) cs
   unfolding has
   passed = calm-passed R (seenIn []) cs (h .each) (λ k o. rw (h .bodies k) (once k o))
@@ -134,10 +134,10 @@ module _ (R : Reader) (D : Judge) (L : Lawful R D) (u : Under) (cs : List (List 
     passed = passed;
     fits = fits;
     shows = same ∙ y;
-  })
+  }) silent
 
   -- refused where it is, at the end record's place
   pub noted-refused : (k : ℕ) (b : Beside) → D .decide u (λ (b : List ℕ). b) l ≡ no k b
-      → readBy R D (message cs e t) u ≡ refused (record { number = k; beside = b; place = length (flat cs) })
+      → readAs R D (message cs e t) u ≡ refused (record { number = k; beside = b; place = length (flat cs) })
   unfolding shown
-  noted-refused k b y = decided-no R D L u cs e t (calm-inner R cs (h .each)) last k b passed fits (same ∙ y)
+  noted-refused k b y = decided-no R D L u cs e t (calm-inner R cs (h .each)) last k b passed fits silent (same ∙ y)

@@ -2,23 +2,26 @@
 use Prim.Native.Nat.{ℕ, _+_, _*_, _<_, _≤_}
 use mathlib.Core.Path.{_≡_}
 use mathlib.Core.List.{List}
-use mathlib.Core.Bool.{Bool, true, cond}
+use mathlib.Core.Bool.{Bool, true, false, cond, _&&_}
 use lib.ListN.{getD, set}
 use lib.Dec.{ltb, eqb}
-use Rattle.wire.specs.Bytes.{numberAt}
+use Rattle.wire.specs.Bytes.{numberAt, partAt}
 use Rattle.nts.specs.declared.NtsError.{NtsError}
+use Rattle.layout.specs.Profile.{asksOf, isFinal, shapeIn, allows}
+use Rattle.layout.specs.declared.Profile.{Profile}
 use Rattle.record.specs.Record.{lookAt}
 use Rattle.record.specs.Told.{toldLooked}
 use Rattle.record.specs.declared.Looked.{Looked}
 use Rattle.record.specs.declared.Looked.the-variants as looked
-use Rattle.walk.specs.Table.{known}
-use Rattle.walk.specs.Rules.{ending, passed, noted, once, single, told, isNoted}
+use Rattle.walk.specs.Rules.{ending, passed, noted, once, single, told, Rules, entryOf, isNoted}
 use Rattle.walk.specs.Shown.{slotOf}
 use Rattle.walk.specs.Found.{entryIn}
 use Rattle.walk.specs.declared.Seen.{Seen}
 use Rattle.walk.specs.declared.Verdict.{Verdict}
 use Rattle.walk.specs.declared.Verdict.the-variants.{On, End, Stop}
 use Rattle.walk.specs.declared.Stepped.{Stepped}
+use Rattle.walk.specs.declared.Walked.{Walked}
+use Rattle.walk.specs.declared.Stop.the-variants as stop
 
 -- ---- what is asked of a record
 
@@ -26,15 +29,17 @@ use Rattle.walk.specs.declared.Stepped.{Stepped}
 unfoldable pub errorOf : ℕ → ℕ → NtsError
 errorOf k n = cond (eqb k 2) (NtsError.Error (record { 0 = n })) (cond (eqb k 3) (NtsError.UnknownWarning (record { 0 = n })) NtsError.Invalid)
 
--- its place in the table, its critical bit, and what it tells
+-- its place in the table, its critical bit, what it tells, and whether the profile allows it
 pub record Asked : Type 0 where
   pub slot : ℕ
   pub critical : Bool
   pub told : NtsError
+  pub allowed : Bool
 
--- of a record of the message s whose body begins at `start`
-abbrev pub asked : List ℕ → ℕ → Bool → ℕ → Asked
-asked s slot critical start = record { slot = slot; critical = critical; told = errorOf slot (numberAt s start) }
+-- of a record of the message s whose body begins at `start` and has n bytes
+abbrev pub asked : Profile → List ℕ → ℕ → Bool → ℕ → ℕ → Asked
+asked P s slot critical start n =
+    record { slot = slot; critical = critical; told = errorOf slot (numberAt s start); allowed = allows (asksOf P slot) critical (partAt s start n) }
 
 -- ---- the verdict on it
 
@@ -55,11 +60,16 @@ ruledOf r before n error =
 unfoldable pub unknownOf : ℕ → Bool → Verdict
 unknownOf slot critical = cond (eqb slot 11) (cond critical (Stop NtsError.UnrecognizedCriticalRecord) On) On
 
+-- what it means
+unfoldable pub meantOf : ℕ → ℕ → Bool → NtsError → ℕ → ℕ → Verdict
+meantOf r slot critical error before n =
+    cond (eqb slot 11)
+    (cond critical (Stop NtsError.UnrecognizedCriticalRecord) On)
+    (ruledOf r before n error)
+
+-- .. where the profile allows it
 unfoldable pub verdictOf : ℕ → Asked → ℕ → ℕ → Verdict
-verdictOf r x before n =
-    cond (eqb (x .slot) 11)
-    (cond (x .critical) (Stop NtsError.UnrecognizedCriticalRecord) On)
-    (ruledOf r before n (x .told))
+verdictOf r x before n = cond (x .allowed) (meantOf r (x .slot) (x .critical) (x .told) before n) (Stop NtsError.NotAllowed)
 
 -- ---- one record more, in the cells
 
@@ -73,9 +83,9 @@ pub record Met (r : ℕ) (x : Asked) (j start n : ℕ) (c : List ℕ) (v : Verdi
   pub says : v ≡ verdictOf r x (entryIn c j .count) n
   pub left : c′ ≡ moreIn c j start n
 
--- the body that the cells tell of a kind which the table notes lies inside a message of n bytes
+-- the body that the cells tell of a kind which the table's entries note lies inside a message of n bytes
 unfoldable pub Fits : List ℕ → ℕ → List ℕ → Type 0
-Fits rules n c = (k : ℕ) → k < 15 → known k ≡ true → isNoted (getD rules k 0) ≡ true → entryIn c k .start + entryIn c k .len ≤ n
+Fits entries n c = (k : ℕ) → k < 15 → eqb k 11 ≡ false → isNoted (getD entries k 0) ≡ true → entryIn c k .start + entryIn c k .len ≤ n
 
 -- ---- one step
 
@@ -88,23 +98,36 @@ abbrev pub lookedOf : Looked → Verdict
 lookedOf (looked.Whole x) = On
 lookedOf (looked.Refused r) = Stop (r .error)
 
+-- where a kind stands in the table
+abbrev pub slotIn : Rules → ℕ → ℕ
+slotIn rules k = slotOf (shapeIn (rules .profile)) k
+
 -- the verdict, the place after the record, and the cells, by what a look at it says
-abbrev pub verdictIn : List ℕ → List ℕ → ℕ → List ℕ → Looked → Verdict
+abbrev pub verdictIn : Rules → List ℕ → ℕ → List ℕ → Looked → Verdict
 verdictIn rules s at c (looked.Whole x) =
-    verdictOf (getD rules (slotOf (x .kind)) 0) (asked s (slotOf (x .kind)) (x .critical) (at + 4)) (entryIn c (slotOf (x .kind)) .count) (x .size)
+    verdictOf (entryOf rules (slotIn rules (x .kind))) (asked (rules .profile) s (slotIn rules (x .kind)) (x .critical) (at + 4) (x .size)) (entryIn c (slotIn rules (x .kind)) .count) (x .size)
 verdictIn rules s at c (looked.Refused r) = Stop (r .error)
 
 abbrev pub nextIn : ℕ → Looked → ℕ
 nextIn at (looked.Whole x) = at + 4 + x .size
 nextIn at (looked.Refused r) = at
 
-abbrev pub cellsIn : ℕ → List ℕ → Looked → List ℕ
-cellsIn at c (looked.Whole x) = moreIn c (slotOf (x .kind)) (at + 4) (x .size)
-cellsIn at c (looked.Refused r) = c
+abbrev pub cellsIn : Rules → ℕ → List ℕ → Looked → List ℕ
+cellsIn rules at c (looked.Whole x) = moreIn c (slotIn rules (x .kind)) (at + 4) (x .size)
+cellsIn rules at c (looked.Refused r) = c
 
-pub record Steps (rules s : List ℕ) (at : ℕ) (c : List ℕ) (r : Stepped) (c′ : List ℕ) : Type 0 where
+pub record Steps (rules : Rules) (s : List ℕ) (at : ℕ) (c : List ℕ) (r : Stepped) (c′ : List ℕ) : Type 0 where
   pub look : Looked
-  pub looks : toldLooked look ≡ lookAt s at
+  pub looks : toldLooked look ≡ lookAt (shapeIn (rules .profile)) s at
   pub says : r .verdict ≡ verdictIn rules s at c look
   pub after : r .next ≡ nextIn at look
-  pub left : c′ ≡ cellsIn at c look
+  pub left : c′ ≡ cellsIn rules at c look
+
+-- ---- after the end record
+
+-- a walk under the limit n that came to the end record at a place of a message of so many bytes; `next` is the place after it
+unfoldable pub endedIn : Profile → ℕ → ℕ → ℕ → ℕ → Walked
+endedIn P n at next long =
+    cond (isFinal P && ltb next long)
+    (record { limit = n; place = next; stop = stop.Refused NtsError.NotAllowed })
+    (record { limit = n; place = at; stop = stop.End })

@@ -6,7 +6,7 @@ use mathlib.Core.Bool.{Bool, true, false, _&&_}
 use lib.ListN.{take}
 use lib.Dec.{eqb}
 use Rattle.nts.specs.Refusal.{Beside, nothing, code, protocol, algorithm, besideNumber}
-use Rattle.walk.specs.Walk.{Reader, Sighting, walk}
+use Rattle.walk.specs.Walk.{Reader, Sighting, walked}
 use Rattle.walk.specs.Judge.{ofKind}
 use Rattle.walk.specs.Shown.{shown, counted}
 use Rattle.walk.specs.Found.{seenOf, Way, wayRefused, wayEnded, wayOf, wayBy}
@@ -37,8 +37,8 @@ cellsFrom k (suc n) l = threeOf (seenOf (ofKind k l)) (cellsFrom (suc k) n l)
 unfoldable pub foundBy : Reader → List ℕ → ℕ → Found
 foundBy R m n = record {
   limit = n;
-  cells = cellsFrom 0 15 (map counted (shown R [] 0 0 (take n m)));
-  way = wayOf (walk R [] 0 0 (take n m));
+  cells = cellsFrom 0 15 (map (counted (R .shape)) (shown R [] 0 0 (take n m)));
+  way = wayOf (walked R (take n m));
 }
 
 -- how a walk went and the cells that it filled, as one

@@ -5,11 +5,11 @@ use mathlib.Core.Path.{_≡_}
 use mathlib.Core.List.{List, [], _∷_, map}
 use mathlib.Core.Bool.{true}
 use lib.ListN.{length, getD}
+use Rattle.layout.specs.Profile.{knows}
 use Rattle.nts.specs.Refusal.{Refused, numberOf, besideOf}
 use Rattle.walk.specs.Walk.{Sighting, Outcome, stopped, ended, walk}
 use Rattle.walk.specs.Judge.{ofKind}
-use Rattle.walk.specs.Table.{known}
-use Rattle.walk.specs.Rules.{isNoted, readerOf}
+use Rattle.walk.specs.Rules.{Rules, entryOf, isNoted, readerOf}
 use Rattle.walk.specs.Shown.{shown, counted}
 use Rattle.walk.specs.declared.Seen.{Seen}
 use Rattle.walk.specs.declared.Stop.{Stop}
@@ -63,12 +63,22 @@ abbrev pub placeOf : Outcome → ℕ
 placeOf (stopped r) = r .place
 placeOf (ended at next st) = at
 
+-- the place after the end record, where that stopped it
+abbrev pub nextOf : Outcome → ℕ
+nextOf (stopped r) = r .place
+nextOf (ended at next st) = next
+
 -- ---- what the loop gives
 
--- the walk by a table over the message s: where and how it stops; the cells for the records that it met; and that of each kind which the table
+-- the records that the walk by a table meets, as they are counted
+abbrev pub countedIn : Rules → List ℕ → List Sighting
+countedIn rules s = map (counted (readerOf rules .shape)) (shown (readerOf rules) [] 0 0 s)
+
+-- the walk by a table over the message s: where and how it stops, and the place after that; the cells for the records that it met; and that of each kind which the table
 -- notes those are the records noted, where it ended
-pub record Walks (rules s : List ℕ) (r : Halted) (c : List ℕ) : Type 0 where
+pub record Walks (rules : Rules) (s : List ℕ) (r : Halted) (c : List ℕ) : Type 0 where
   pub says : wayBy (r .place) (r .stop) ≡ wayOf (walk (readerOf rules) [] 0 0 s)
-  pub met : Stands c (map counted (shown (readerOf rules) [] 0 0 s))
-  pub noted : (at next : ℕ) (st : List Sighting) → walk (readerOf rules) [] 0 0 s ≡ ended at next st → (k : ℕ) → known k ≡ true → isNoted (getD rules k 0) ≡ true
-      → ofKind k st ≡ ofKind k (map counted (shown (readerOf rules) [] 0 0 s))
+  pub after : r .next ≡ nextOf (walk (readerOf rules) [] 0 0 s)
+  pub met : Stands c (countedIn rules s)
+  pub noted : (at next : ℕ) (st : List Sighting) → walk (readerOf rules) [] 0 0 s ≡ ended at next st → (k : ℕ) → knows (rules .profile) k ≡ true → isNoted (entryOf rules k) ≡ true
+      → ofKind k st ≡ ofKind k (countedIn rules s)

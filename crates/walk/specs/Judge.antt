@@ -7,7 +7,8 @@ use lib.ListN.{length, take, drop}
 use lib.Dec.{eqb}
 use Rattle.nts.specs.Refusal.{Beside, Refused}
 use Rattle.layout.specs.declared.Part.{Part}
-use Rattle.walk.specs.Walk.{Reader, Sighting, Outcome, stopped, ended, walk}
+use Rattle.layout.specs.declared.Profile.{Profile}
+use Rattle.walk.specs.Walk.{Reader, Sighting, Outcome, stopped, ended, walked}
 
 -- refused with a number, or accepted with contents of the form Q over the bodies
 pub data Verdict (Q : Type 0 → Type 0) (A : Type 0) : Type 0 where
@@ -29,8 +30,9 @@ any n = true
 abbrev pub roomFor : ℕ → Terms
 roomFor room = record { room = room; protocols = any; algorithms = any }
 
--- what a read is asked under: after how many bytes the message is cut, and what is lent beside it
+-- what a read is asked under: the profile in which it is read, after how many bytes the message is cut, and what is lent beside it
 pub record Under : Type 0 where
+  pub profile : Profile
   pub limit : ℕ
   pub terms : Terms
 
@@ -77,6 +79,10 @@ unfoldable pub finish : (D : Judge) → Under → List ℕ → Outcome → Answe
 finish D u m (stopped r) = refused r
 finish D u m (ended at next st) = placed at (D .decide u (bodyIn m) (λ k. ofKind k st))
 
--- a message m read under what is asked: as if it were cut after so many bytes
-unfoldable pub readBy : Reader → (D : Judge) → List ℕ → Under → Answer (D .Q)
-readBy R D m u = finish D u m (walk R [] 0 0 (take (u .limit) m))
+-- a message m read by a reader, as if it were cut after so many bytes
+unfoldable pub readAs : Reader → (D : Judge) → List ℕ → Under → Answer (D .Q)
+readAs R D m u = finish D u m (walked R (take (u .limit) m))
+
+-- .. by the reader that R is in the profile under which it is asked
+abbrev pub readBy : (Profile → Reader) → (D : Judge) → List ℕ → Under → Answer (D .Q)
+readBy R D m u = readAs (R (u .profile)) D m u

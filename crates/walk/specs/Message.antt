@@ -1,14 +1,15 @@
--- A message in the words of demand 3: whole records, the end record, and what follows it, which is not looked at: 01, "The record" (a record
+-- A message in the words of demand 3: whole records, the end record, and what follows it: 01, "The record" (a record
 -- takes exactly 4 + size bytes) and "From records to a request"; and what an accepted answer shows of it. A record stands here for its bytes.
 use Prim.Native.Nat.{ℕ, _+_, _≤_}
 use mathlib.Core.Path.{_≡_}
 use mathlib.Core.List.{List, [], _∷_, _++_}
-use mathlib.Core.Bool.{cond}
+use mathlib.Core.Bool.{true, cond}
 use lib.ListN.{length}
 use lib.Dec.{eqb}
 use Rattle.record.specs.Record.{kind, size, there}
+use Rattle.layout.specs.Profile.{isFinal}
 use Rattle.walk.specs.Walk.{Reader, Sighting}
-use Rattle.walk.specs.Judge.{Under, Judge, bodyIn, accepted, readBy}
+use Rattle.walk.specs.Judge.{Under, Judge, bodyIn, accepted, readAs}
 
 -- ---- records
 
@@ -53,6 +54,10 @@ pub record Parts (P E : List ℕ → Type 0) (m : List ℕ) (n : ℕ) : Type 0 w
   pub ends : E last
   pub fits : length (flat front) + length last ≤ n
 
+-- the tail of another message: any, or the same where the profile lets nothing follow the end record
+abbrev pub SameTail : Under → List ℕ → List ℕ → Type 0
+SameTail u t t′ = isFinal (u .profile) ≡ true → t′ ≡ t
+
 -- ---- an accepted message
 
 -- what its answer shows: each part as the bytes that stand there
@@ -61,4 +66,4 @@ contents D m q = D .mapQ (bodyIn m) q
 
 -- m is accepted under what is asked, and its answer shows x
 abbrev pub Shows : Reader → (D : Judge) → List ℕ → Under → D .Q (List ℕ) → Type 0
-Shows R D m u x = (q : D .Q Sighting) × (readBy R D m u ≡ accepted q) × (contents D m q ≡ x)
+Shows R D m u x = (q : D .Q Sighting) × (readAs R D m u ≡ accepted q) × (contents D m q ≡ x)

@@ -2,11 +2,11 @@
 -- the one that is being gathered.
 use Prim.Native.Nat.{ℕ, zero, suc, _/_, _%_, _^_}
 use mathlib.Core.List.{List, [], _∷_}
-use mathlib.Core.Bool.{Bool, cond}
+use mathlib.Core.Bool.{Bool, true, false, cond}
 use lib.Bits.{bitOr}
 use lib.Dec.{eqb}
 use Rattle.record.specs.Record.{kind}
-use Rattle.walk.specs.Walk.{Reader, Sighting, Step, stops, goes, step}
+use Rattle.walk.specs.Walk.{Reader, Sighting, Outcome, stopped, ended, Step, stops, goes, step}
 use Rattle.walk.specs.Shown.{slotOf}
 use Rattle.walk.specs.declared.Passed.{Passed}
 use Rattle.walk.specs.declared.Passed.the-variants as passed
@@ -32,7 +32,16 @@ pub data Passing : Type 0 where
   on : ℕ → Passing
 
 unfoldable pub passing : Reader → ℕ → List ℕ → Passing
-passing R met s = elim (step R (metBelow met 15) 0 s) [ stops o ↦ halts | goes st ↦ on (withMet met (slotOf (kind s))) ]
+passing R met s = elim (step R (metBelow met 15) 0 s) [ stops o ↦ halts | goes st ↦ on (withMet met (slotOf (R .shape) (kind s))) ]
+
+-- .. and whether it ends the message: with no fault, and by its meaning
+abbrev pub isEnded : Step → Bool
+isEnded (stops (stopped r)) = false
+isEnded (stops (ended at next st)) = true
+isEnded (goes st) = false
+
+unfoldable pub ends : Reader → List ℕ → Bool
+ends R s = isEnded (step R [] 0 s)
 
 -- what each case of the answer says
 abbrev pub toldPassed : Passed → Passing

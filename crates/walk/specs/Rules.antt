@@ -1,15 +1,16 @@
--- A reader as a table of fifteen entries, one for each kind up to 14, and one rule for unknown kinds, which are not asked of the table: 01,
--- "From records to a request" and "Choosing and replying", each in record order. The entry at 11, which is an unknown kind, says nothing.
+-- A reader as a table of fifteen entries, one for each kind up to 14, in a profile, and one rule for unknown kinds, which are not asked of the table: 01,
+-- "From records to a request" and "Choosing and replying", each in record order. The entry at 11, which is an unknown kind, says nothing; nor does one at a kind that the profile does not know.
 use Prim.Native.Nat.{ℕ}
 use mathlib.Core.List.{List}
-use mathlib.Core.Bool.{Bool, cond, _&&_, _||_}
+use mathlib.Core.Bool.{Bool, cond, _||_}
 use lib.ListN.{length, getD}
 use lib.Dec.{ltb, eqb}
 use Rattle.wire.specs.Bytes.{numberAt}
 use Rattle.nts.specs.Refusal.{nothing, code}
-use Rattle.layout.specs.Table.{shapeOf}
+use Rattle.layout.specs.Profile.{asksOf, isFinal, shapeIn, knows, allows}
+use Rattle.layout.specs.declared.Profile.{Profile}
 use Rattle.walk.specs.Walk.{Act, ends, passes, notes, refuses, Reader}
-use Rattle.walk.specs.Table.{known}
+use Rattle.walk.specs.Table.{meaning}
 
 -- ---- what an entry can be
 
@@ -55,14 +56,26 @@ ruleAct r k b =
     (cond (eqb r single) (cond (ltb 2 (length b)) (refuses 4 nothing) notes)
     (cond (eqb r told) (tellAct k b) (refuses 4 nothing)))))
 
-unfoldable pub actAt : List ℕ → ℕ → Bool → List ℕ → Act
-actAt rules k critical b = cond (known k) (ruleAct (getD rules k 0) k b) (cond critical (refuses 3 nothing) passes)
+-- the entries, and the profile in which they are taken
+pub record Rules : Type 0 where
+  pub profile : Profile
+  pub entries : List ℕ
 
-unfoldable pub onceAt : List ℕ → ℕ → Bool
-onceAt rules k = known k && (eqb (getD rules k 0) once || eqb (getD rules k 0) single)
+-- the entry of a kind
+abbrev pub entryOf : Rules → ℕ → ℕ
+entryOf rules k = getD (rules .entries) k 0
 
-abbrev pub readerOf : List ℕ → Reader
-readerOf rules = record { shape = shapeOf; act = actAt rules; once = onceAt rules }
+unfoldable pub actAt : Rules → ℕ → Bool → List ℕ → Act
+actAt rules k critical b =
+    cond (allows (asksOf (rules .profile) k) critical b)
+    (meaning (knows (rules .profile) k) critical (ruleAct (entryOf rules k) k b))
+    (refuses 18 nothing)
+
+unfoldable pub onceAt : Rules → ℕ → Bool
+onceAt rules k = eqb (entryOf rules k) once || eqb (entryOf rules k) single
+
+abbrev pub readerOf : Rules → Reader
+readerOf rules = record { shape = shapeIn (rules .profile); act = actAt rules; once = onceAt rules; final = isFinal (rules .profile) }
 
 -- whether a record with this entry is noted where the walk goes on
 unfoldable pub isNoted : ℕ → Bool

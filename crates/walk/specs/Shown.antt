@@ -2,11 +2,12 @@
 -- refused.
 use Prim.Native.Nat.{ℕ, zero, suc, _+_}
 use mathlib.Core.List.{List, [], _∷_}
-use mathlib.Core.Bool.{Bool, cond}
+use mathlib.Core.Bool.{Bool, cond, not}
 use lib.Dec.{eqb}
 use Rattle.record.specs.Record.{kind, critical, size}
+use Rattle.layout.specs.Table.{isUnknownShape}
+use Rattle.layout.specs.declared.Shape.{Shape}
 use Rattle.walk.specs.Walk.{Reader, Sighting, Step, stops, goes, step, faultIn}
-use Rattle.walk.specs.Table.{known}
 
 pub record Mark : Type 0 where
   pub place : ℕ
@@ -29,10 +30,10 @@ shown R st at zero (b ∷ s) =
 
 -- ---- by kind
 
--- where a kind is counted: unknown ones together, under 11
-unfoldable pub slotOf : ℕ → ℕ
-slotOf k = cond (known k) k 11
+-- where a kind is counted, by what each kind's body holds: unknown ones together, under 11
+unfoldable pub slotOf : (ℕ → Shape) → ℕ → ℕ
+slotOf shape k = cond (not (isUnknownShape (shape k))) k 11
 
 -- a record as it is counted, and where its body lies
-abbrev pub counted : Mark → Sighting
-counted x = record { of = slotOf (x .kind); start = x .place + 4; len = x .size }
+abbrev pub counted : (ℕ → Shape) → Mark → Sighting
+counted shape x = record { of = slotOf shape (x .kind); start = x .place + 4; len = x .size }

@@ -1,5 +1,5 @@
 -- The walk over a message, once for every reader: 01, "From records to a request" and "Choosing and replying": read through the first end
--- record; what follows is not looked at; the first fault in record order is the one told, at the place of its record.
+-- record; the first fault in record order is the one told, at the place of its record; and then what follows the end: it is not looked at, or, 02, order 5, none may.
 use Prim.Native.Nat.{ℕ, zero, suc, _+_}
 use mathlib.Core.Path.{_≡_}
 use mathlib.Core.List.{List, [], _∷_, _++_}
@@ -9,7 +9,7 @@ use lib.ListN.{length, take}
 use lib.Dec.{ltb, eqb}
 use Rattle.nts.specs.Refusal.{Beside, nothing, Refused}
 use Rattle.layout.specs.declared.Shape.{Shape}
-use Rattle.record.specs.Record.{kind, critical, size, there, faultOf}
+use Rattle.record.specs.Record.{kind, critical, size, there, faultBy}
 
 -- ---- a reader is a table by kind
 
@@ -25,10 +25,12 @@ pub record Reader : Type 0 where
   pub act : ℕ → Bool → List ℕ → Act
   -- a second record of such a kind is 4
   pub once : ℕ → Bool
+  -- no byte may follow the end record
+  pub final : Bool
 
 -- of the record at the list's front: the fault of its header or body, 0 for none ..
-unfoldable pub faultIn : Reader → List ℕ → ℕ
-faultIn R s = cond (ltb (length s) 4) 1 (faultOf (R .shape (kind s)) (size s) (there s))
+abbrev pub faultIn : Reader → List ℕ → ℕ
+faultIn R s = faultBy (R .shape) s
 
 -- .. and then its meaning
 unfoldable pub actIn : Reader → List ℕ → Act
@@ -83,6 +85,17 @@ walk R st at k [] = stopped (record { number = 1; beside = nothing; place = at }
 walk R st at (suc k) (b ∷ s) = walk R st at k s
 walk R st at zero (b ∷ s) =
     elim (step R st at (b ∷ s)) [ stops o ↦ o | goes st′ ↦ walk R st′ (at + (4 + size (b ∷ s))) (3 + size (b ∷ s)) s ]
+
+-- ---- after the end record of the message s: a byte at the place behind it is 18 there, where none may follow; otherwise it is not looked at
+
+unfoldable pub behind : Reader → List ℕ → Outcome → Outcome
+behind R s (stopped r) = stopped r
+behind R s (ended at next st) =
+    cond (R .final && ltb next (length s)) (stopped (record { number = 18; beside = nothing; place = next })) (ended at next st)
+
+-- a whole message
+unfoldable pub walked : Reader → List ℕ → Outcome
+walked R s = behind R s (walk R [] 0 0 s)
 
 -- ---- the message that it is over: 01, "Which part of the crate": as if it were cut after so many bytes
 

@@ -7,9 +7,11 @@ use nts::WarningCode;
 use record::Looked;
 use record::NtsRecord;
 use record::Part;
+use record::Profile;
 ghost use mathlib.Core.Path.{_≡_};
 ghost use Prim.Native.Nat.{_+_, _<_, _≤_, _^_};
 ghost use lib.ListN.{length, take, drop};
+ghost use Rattle.layout.specs.Table.{shapeOf};
 ghost use Rattle.wire.specs.Bytes.{numberAt};
 ghost use Rattle.walk.specs.Walk.{CutOf};
 ghost use Rattle.walk.specs.Judge.{some};
@@ -17,11 +19,11 @@ ghost use Rattle.walk.specs.Shown.{slotOf};
 ghost use mathlib.Core.Bool.{cond, _&&_};
 ghost use lib.Dec.{eqb};
 ghost use Rattle.nts.specs.Refusal.{numberOf, besideOf, besideNumber, toldCode};
-ghost use Rattle.walk.specs.Rules.{readerOf};
+ghost use Rattle.walk.specs.Rules.{Rules, readerOf};
 ghost use Rattle.walk.specs.Found.{entryIn, toldIn, wayBy, Walks};
 ghost use Rattle.walk.specs.Finding.{sameNumbers, sortIn, sameBeside, sameWay, sameFound, foundBy, asFinding, toldFinding};
-ghost use Rattle.walk.specs.Met.{isMet, withMet, passing, toldPassed};
-ghost use Rattle.walk.specs.Code.{errorOf, asked, atMost, ruledOf, unknownOf, verdictOf, moreIn, Met, Few, lookedOf, Steps};
+ghost use Rattle.walk.specs.Met.{isMet, withMet, passing, ends, toldPassed};
+ghost use Rattle.walk.specs.Code.{errorOf, asked, atMost, ruledOf, unknownOf, meantOf, verdictOf, endedIn, moreIn, Met, Few, lookedOf, Steps};
 
 // What a table's entry says of a record of its kind: it ends the message; it is passed over; it is noted; it is noted, and a second one is refused
 // with 4; the same, with at most one entry; it is refused with 11 or 12 and its code; it is refused with 4, as by any other number.
@@ -39,7 +41,7 @@ pub const TOLD: u8 = 5;
 
 pub const REFUSED: u8 = 6;
 
-// How many kinds have an entry: those up to 14. Unknown kinds are not asked of the table, and count under the one number below that no kind has.
+// How many kinds have an entry: those up to 14. Kinds that the profile does not know are not asked of the table, and count under the one number below that no kind has.
 const KINDS: usize = 15;
 
 const UNKNOWN: usize = 11;
@@ -108,9 +110,10 @@ pub enum Passed {
     Stopped,
 }
 
-// Where a walk has stopped, and why.
+// Where a walk has stopped, and why; and the place after the end record, where that stopped it.
 struct Halted {
     place: usize,
+    next: usize,
     stop: Stop,
 }
 
@@ -138,22 +141,31 @@ pub fn cut_at(message: &[u8], limit: u16) -> &[u8]
     &message[0..]
 }
 
-// The walk by a table over a message as if it were cut after `limit` bytes: record after record, until one is refused or the first that ends it.
-// What it found goes into the cells, so that a reader which has no other use for a finding does not pay for its copies. A record that is refused counts; one that
-// does not read does not.
-pub fn walk(rules: &[u8; 15], message: &[u8], limit: u16, cells: &mut [u16; 45]) -> Walked
-    ensures { λ r. ⌜ toldFinding (asFinding r (now (cells .exit))) ≡ foundBy (readerOf (now (rules .entry))) (now (message .entry)) limit ⌝ }
+// The walk by a table in a profile over a message as if it were cut after `limit` bytes: record after record, until one is refused or the first that ends it; then a
+// byte that follows, where the profile lets none. What it found goes into the cells, so that a reader which has no other use for a finding does not pay for its copies. A
+// record that is refused counts; one that does not read does not.
+pub fn walk(
+    profile: Profile,
+    rules: &[u8; 15],
+    message: &[u8],
+    limit: u16,
+    cells: &mut [u16; 45],
+) -> Walked
+    ensures { λ r. ⌜ toldFinding (asFinding r (now (cells .exit))) ≡ foundBy (readerOf (record { profile = profile; entries = now (rules .entry) })) (now (message .entry)) limit ⌝ }
 {
     let cut = cut_at(message, limit);
-    let halted = walk_cut(rules, cut, cells);
+    let halted = walk_cut(profile, rules, cut, cells);
     let place = halted.place;
     let stop = halted.stop;
-    Walked { limit, place, stop }
+    match stop {
+        Stop::End => ended(profile, limit, place, halted.next, cut.len()),
+        Stop::Refused(_) => Walked { limit, place, stop },
+    }
 }
 
 // What a walk found of a kind, or of all unknown ones.
 pub fn found(cells: &[u16; 45], kind: u16) -> Seen
-    ensures { λ r. ⌜ r ≡ entryIn (now (cells .entry)) (slotOf kind) ⌝ }
+    ensures { λ r. ⌜ r ≡ entryIn (now (cells .entry)) (slotOf shapeOf kind) ⌝ }
 {
     let c = slot_of(kind) * 3;
     let d = c + 1;
@@ -167,7 +179,7 @@ pub fn found(cells: &[u16; 45], kind: u16) -> Seen
 
 // Whether a walk met a record of a kind.
 pub fn is_there(cells: &[u16; 45], kind: u16) -> bool
-    ensures { λ r. ⌜ r ≡ some (toldIn (now (cells .entry)) (slotOf kind)) ⌝ }
+    ensures { λ r. ⌜ r ≡ some (toldIn (now (cells .entry)) (slotOf shapeOf kind)) ⌝ }
 {
     if found(cells, kind).count == 0 {
         return false;
@@ -175,17 +187,18 @@ pub fn is_there(cells: &[u16; 45], kind: u16) -> bool
     true
 }
 
-// One record of a walk that has met the kinds in `met` before it: the one at a place, by a table. So a walk can be taken up again where it was left.
-pub fn pass(rules: &[u8; 15], bytes: &[u8], at: usize, met: u16) -> Passed
-    ensures { λ r. ⌜ toldPassed r ≡ passing (readerOf (now (rules .entry))) met (drop at (now (bytes .entry))) ⌝ }
+// One record of a walk that has met the kinds in `met` before it: the one at a place, by a table in a profile. So a walk can be taken up again where it was left.
+pub fn pass(profile: Profile, rules: &[u8; 15], bytes: &[u8], at: usize, met: u16) -> Passed
+    ensures { λ r. ⌜ toldPassed r ≡ passing (readerOf (record { profile = profile; entries = now (rules .entry) })) met (drop at (now (bytes .entry))) ⌝ }
 {
-    let answer = record::look(bytes, at);
+    let answer = record::look(profile, bytes, at);
     let Looked::Whole(seen) = answer else {
         return Passed::Stopped;
     };
-    let slot = slot_of(seen.kind);
+    let slot = slot_of(profile.taken(seen.kind));
     let start = at + NtsRecord::HEADER;
     let verdict = judged(
+        profile,
         rules[slot],
         slot,
         seen.critical,
@@ -198,6 +211,33 @@ pub fn pass(rules: &[u8; 15], bytes: &[u8], at: usize, met: u16) -> Passed
         Verdict::On => Passed::On(with_met(met, slot)),
         Verdict::End => Passed::Stopped,
         Verdict::Stop(_) => Passed::Stopped,
+    }
+}
+
+// Whether the record at a place ends the message: it has no fault, and that is its meaning.
+pub fn is_end(profile: Profile, rules: &[u8; 15], bytes: &[u8], at: usize) -> bool
+    ensures { λ r. ⌜ r ≡ ends (readerOf (record { profile = profile; entries = now (rules .entry) })) (drop at (now (bytes .entry))) ⌝ }
+{
+    let answer = record::look(profile, bytes, at);
+    let Looked::Whole(seen) = answer else {
+        return false;
+    };
+    let slot = slot_of(profile.taken(seen.kind));
+    let start = at + NtsRecord::HEADER;
+    let verdict = judged(
+        profile,
+        rules[slot],
+        slot,
+        seen.critical,
+        0,
+        bytes,
+        start,
+        seen.size,
+    );
+    match verdict {
+        Verdict::On => false,
+        Verdict::End => true,
+        Verdict::Stop(_) => false,
     }
 }
 
@@ -285,14 +325,34 @@ fn with_met(met: u16, slot: usize) -> u16
     met | (1u16 << slot)
 }
 
-fn walk_cut(rules: &[u8; 15], cut: &[u8], cells: &mut [u16; 45]) -> Halted
+// A walk that came to the end record: nothing may follow it where the profile says so.
+fn ended(profile: Profile, limit: u16, place: usize, next: usize, length: usize) -> Walked
+    ensures { λ r. ⌜ r ≡ endedIn profile limit place next length ⌝ }
+{
+    if profile.is_final() {
+        if next < length {
+            return Walked {
+                limit,
+                place: next,
+                stop: Stop::Refused(NtsError::NotAllowed),
+            };
+        }
+    }
+    Walked {
+        limit,
+        place,
+        stop: Stop::End,
+    }
+}
+
+fn walk_cut(profile: Profile, rules: &[u8; 15], cut: &[u8], cells: &mut [u16; 45]) -> Halted
     requires { ⌜ length (now cut) < 2 ^ 16 ⌝ }
-    ensures { λ r. ⌜ Walks (now (rules .entry)) (now (cut .entry)) r (now (cells .exit)) ⌝ }
+    ensures { λ r. ⌜ Walks (record { profile = profile; entries = now (rules .entry) }) (now (cut .entry)) r (now (cells .exit)) ⌝ }
 {
     let mut at: usize = 0;
     *cells = [0u16; 45];
     loop {
-        let stepped = step(rules, cut, at, cells);
+        let stepped = step(profile, rules, cut, at, cells);
         let verdict = stepped.verdict;
         match verdict {
             Verdict::On => {
@@ -301,12 +361,14 @@ fn walk_cut(rules: &[u8; 15], cut: &[u8], cells: &mut [u16; 45]) -> Halted
             Verdict::End => {
                 return Halted {
                     place: at,
+                    next: stepped.next,
                     stop: Stop::End,
                 };
             }
             Verdict::Stop(error) => {
                 return Halted {
                     place: at,
+                    next: at,
                     stop: Stop::Refused(error),
                 };
             }
@@ -315,11 +377,11 @@ fn walk_cut(rules: &[u8; 15], cut: &[u8], cells: &mut [u16; 45]) -> Halted
 }
 
 // One record: a look at it, and what the table says of it.
-fn step(rules: &[u8; 15], cut: &[u8], at: usize, cells: &mut [u16; 45]) -> Stepped
+fn step(profile: Profile, rules: &[u8; 15], cut: &[u8], at: usize, cells: &mut [u16; 45]) -> Stepped
     requires { ⌜ (length (now cut) < 2 ^ 16) × Few (now cells) at ⌝ }
-    ensures { λ r. ⌜ Steps (now (rules .entry)) (now (cut .entry)) at (now (cells .entry)) r (now (cells .exit)) ⌝ }
+    ensures { λ r. ⌜ Steps (record { profile = profile; entries = now (rules .entry) }) (now (cut .entry)) at (now (cells .entry)) r (now (cells .exit)) ⌝ }
 {
-    let answer = record::look(cut, at);
+    let answer = record::look(profile, cut, at);
     let Looked::Whole(x) = answer else {
         return Stepped {
             verdict: by_look(answer),
@@ -327,8 +389,17 @@ fn step(rules: &[u8; 15], cut: &[u8], at: usize, cells: &mut [u16; 45]) -> Stepp
         };
     };
     let start = at + NtsRecord::HEADER;
-    let slot = slot_of(x.kind);
-    let verdict = meet(cells, rules[slot], slot, x.critical, cut, start, x.size);
+    let slot = slot_of(profile.taken(x.kind));
+    let verdict = meet(
+        profile,
+        cells,
+        rules[slot],
+        slot,
+        x.critical,
+        cut,
+        start,
+        x.size,
+    );
     Stepped {
         verdict,
         next: start + x.size as usize,
@@ -350,7 +421,7 @@ fn by_look(answer: Looked) -> Verdict
 
 // Where a kind stands in the table and in the cells.
 fn slot_of(kind: u16) -> usize
-    ensures { λ r. ⌜ r ≡ slotOf kind ⌝ }
+    ensures { λ r. ⌜ r ≡ slotOf shapeOf kind ⌝ }
 {
     let slot = kind as usize;
     if slot < KINDS {
@@ -361,6 +432,7 @@ fn slot_of(kind: u16) -> usize
 
 // One record met, by its kind's entry: it is counted, also where it is refused.
 fn meet(
+    profile: Profile,
     cells: &mut [u16; 45],
     rule: u8,
     slot: usize,
@@ -370,10 +442,10 @@ fn meet(
     size: u16,
 ) -> Verdict
     requires { ⌜ (slot < 15) × (start < 2 ^ 16) × (entryIn (now cells) slot .count + 1 < 2 ^ 16) ⌝ }
-    ensures { λ r. ⌜ Met rule (asked (now (cut .entry)) slot critical start) slot start size (now (cells .entry)) r (now (cells .exit)) ⌝ }
+    ensures { λ r. ⌜ Met rule (asked profile (now (cut .entry)) slot critical start size) slot start size (now (cells .entry)) r (now (cells .exit)) ⌝ }
 {
     let c = slot * 3;
-    let verdict = judged(rule, slot, critical, cells[c], cut, start, size);
+    let verdict = judged(profile, rule, slot, critical, cells[c], cut, start, size);
     count_more(cells, slot, start as u16, size);
     verdict
 }
@@ -394,8 +466,9 @@ fn count_more(cells: &mut [u16; 45], slot: usize, start: u16, len: u16)
     }
 }
 
-// An unknown kind is not asked of the table. What is noted however often it stands comes first, since there may be many.
+// What the profile does not allow is refused before its meaning.
 fn judged(
+    profile: Profile,
     rule: u8,
     slot: usize,
     critical: bool,
@@ -404,7 +477,30 @@ fn judged(
     start: usize,
     size: u16,
 ) -> Verdict
-    ensures { λ r. ⌜ r ≡ verdictOf rule (asked (now (cut .entry)) slot critical start) before size ⌝ }
+    requires { ⌜ slot < 15 ⌝ }
+    ensures { λ r. ⌜ r ≡ verdictOf rule (asked profile (now (cut .entry)) slot critical start size) before size ⌝ }
+{
+    let body = Part {
+        start,
+        len: size as usize,
+    };
+    if profile.allows(slot as u16, critical, cut, body) {
+        return meant(rule, slot, critical, before, cut, start, size);
+    }
+    Verdict::Stop(NtsError::NotAllowed)
+}
+
+// An unknown kind is not asked of the table. What is noted however often it stands comes first, since there may be many.
+fn meant(
+    rule: u8,
+    slot: usize,
+    critical: bool,
+    before: u16,
+    cut: &[u8],
+    start: usize,
+    size: u16,
+) -> Verdict
+    ensures { λ r. ⌜ r ≡ meantOf rule slot critical (errorOf slot (numberAt (now (cut .entry)) start)) before size ⌝ }
 {
     if rule == NOTED {
         return unless_unknown(slot, critical);

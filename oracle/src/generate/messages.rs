@@ -2,7 +2,7 @@
 
 use std::io::{self, Write};
 
-use super::payloads::Feed;
+use super::payloads::{Feed, under};
 use super::records::{body, good};
 use super::tokens::END;
 use super::{limited, offers, record};
@@ -12,19 +12,20 @@ use crate::random::Random;
 
 /// The entries of the largest table.
 pub const ENTRIES: usize = CELLS / 2;
-/// A limit and a table's cells can stand before the lists.
+/// A limit and a table's cells can stand before the lists of ops y and l.
 pub const BEFORE_LISTS: usize = 4;
 
 /// What requests and replies differ in, for what makes messages of either.
 pub struct Family {
     /// The name of the corpus of random messages.
     pub name: &'static str,
-    /// The op under the crate's limit with the largest table.
-    pub crates: u8,
+    /// The op under the crate's limit with the largest table, if there is one.
+    pub crates: Option<u8>,
     /// The op under the largest limit with the largest table, if there is one.
     pub largest: Option<u8>,
-    /// The op under a limit with a table.
+    /// The op under a limit with a table, and whether its limit has four bytes.
     pub limited: u8,
+    pub long_limit: bool,
     /// The op that is fed in pieces.
     pub fed: u8,
     /// Whether the reader is told which lists were offered.
@@ -37,6 +38,8 @@ pub struct Family {
     pub lists: fn(&mut Random) -> Vec<Vec<u8>>,
     /// A message's records, in any order, and how many of them fill the table. Most are accepted.
     pub message: fn(&mut Random) -> (Vec<Vec<u8>>, usize),
+    /// Those records joined, whole or with something altered.
+    pub altered: fn(&mut Random, Vec<Vec<u8>>) -> Vec<u8>,
     /// The records before the end of an accepted message, either with a full table or without.
     pub accepted: fn(&mut Random, bool) -> Vec<Vec<u8>>,
     /// Records of which sequences are made.
@@ -46,7 +49,10 @@ pub struct Family {
 impl Family {
     /// A case under the crate's limit with the largest table.
     pub fn put_crates(&self, random: &mut Random, out: &mut impl Write, message: &[u8]) -> io::Result<()> {
-        put(out, self.crates, &self.with_lists(random, 0, message))
+        match self.crates {
+            Some(op) => put(out, op, &self.with_lists(random, 0, message)),
+            None => self.put_limited(random, out, (CRATES_LIMIT, CELLS), message),
+        }
     }
 
     /// A case under a limit with a table.
@@ -57,12 +63,13 @@ impl Family {
         (limit, cells): (usize, usize),
         message: &[u8],
     ) -> io::Result<()> {
-        put(out, self.limited, &limited(limit, cells, &self.with_lists(random, BEFORE_LISTS, message)))
+        let message = self.with_lists(random, self.before_lists(), message);
+        put(out, self.limited, &self.limited(limit, cells, &message))
     }
 
     /// A case under the largest limit with the largest table.
     pub fn put_largest(&self, random: &mut Random, out: &mut impl Write, message: &[u8]) -> io::Result<()> {
-        let message = self.with_lists(random, BEFORE_LISTS, message);
+        let message = self.with_lists(random, self.before_lists(), message);
         self.put_largest_with(out, &[], &message)
     }
 
@@ -71,8 +78,18 @@ impl Family {
         let message = [lists, message].concat();
         match self.largest {
             Some(op) => put(out, op, &message),
-            None => put(out, self.limited, &limited(LARGEST_LIMIT, CELLS, &message)),
+            None => put(out, self.limited, &self.limited(LARGEST_LIMIT, CELLS, &message)),
         }
+    }
+
+    /// The payload of the op under a limit.
+    fn limited(&self, limit: usize, cells: usize, message: &[u8]) -> Vec<u8> {
+        if self.long_limit { under(limit, cells, message) } else { limited(limit, cells, message) }
+    }
+
+    /// How many bytes of that payload stand before the lists.
+    fn before_lists(&self) -> usize {
+        self.limited(0, 0, &[]).len()
     }
 
     /// A case that is fed in pieces.
@@ -102,7 +119,9 @@ impl Family {
     pub fn largest_message<'a>(&self, op: u8, payload: &'a [u8]) -> Option<(&'a [u8], &'a [u8])> {
         let payload = match self.largest {
             Some(largest) => Some(payload).filter(|_| op == largest)?,
-            None => payload.strip_prefix(&limited(LARGEST_LIMIT, CELLS, &[])[..]).filter(|_| op == self.limited)?,
+            None => {
+                payload.strip_prefix(&self.limited(LARGEST_LIMIT, CELLS, &[])[..]).filter(|_| op == self.limited)?
+            }
         };
         let mut rest = Payload(payload);
         if self.offered {
@@ -130,7 +149,12 @@ pub fn messages(family: &Family, seed: u64, count: u64, out: &mut impl Write) ->
 
 /// A message, whole or with something altered, and how many records of it were made to fill the table.
 pub fn one(family: &Family, random: &mut Random) -> (Vec<u8>, usize) {
-    let (mut records, entries) = (family.message)(random);
+    let (records, entries) = (family.message)(random);
+    ((family.altered)(random, records), entries)
+}
+
+/// Records joined: whole, mutated or spoiled, and now and then with another behind them.
+pub fn altered(random: &mut Random, mut records: Vec<Vec<u8>>) -> Vec<u8> {
     if random.once_in(2) {
         mutate(random, &mut records);
     }
@@ -141,7 +165,7 @@ pub fn one(family: &Family, random: &mut Random) -> (Vec<u8>, usize) {
     if random.once_in(4) {
         message.extend_from_slice(&good(random));
     }
-    (message, entries)
+    message
 }
 
 /// One of the ops; a limit is mostly around the message's length and a table around its entries.
@@ -349,7 +373,7 @@ fn full_tables(family: &Family, random: &mut Random, out: &mut impl Write) -> io
 
 /// Payloads that do not fit the op under a limit with a table.
 fn bad(family: &Family, random: &mut Random, out: &mut impl Write) -> io::Result<()> {
-    for length in 0..4 {
+    for length in 0..family.before_lists() {
         put(out, family.limited, &random.bytes(length))?;
     }
     let message = [(family.lists)(random).concat(), END.to_vec()].concat();

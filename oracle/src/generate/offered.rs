@@ -6,7 +6,7 @@ use std::io::{self, Write};
 use super::messages::{list_of, shuffle, unknown};
 use super::offers::{LONGEST_LIST, lacking, other};
 use super::payloads::{Feed, numbers, offered as lists};
-use super::replies::REPLIES;
+use super::replies::{CRATES, REPLIES};
 use super::tokens::END;
 use super::{limited, record};
 use crate::corpus::{CELLS, CRATES_LIMIT, LARGEST_LIMIT, LONGEST, put};
@@ -61,7 +61,7 @@ fn in_turn(
 ) -> io::Result<()> {
     let lists = lists(offer);
     match turn % 3 {
-        0 => put(out, REPLIES.crates, &[&lists[..], message].concat()),
+        0 => put(out, CRATES, &[&lists[..], message].concat()),
         1 => put(out, REPLIES.limited, &limited(LARGEST_LIMIT, 4, &[&lists[..], message].concat())),
         _ => {
             let feed = Feed { limit: CRATES_LIMIT, cells: 4, buffer: message.len(), close: random.once_in(2) };
@@ -79,9 +79,9 @@ fn every_number(random: &mut Random, out: &mut impl Write) -> io::Result<()> {
             named[which] = number;
             let message = reply(random, named);
             let mut offer = named.map(|number| vec![number]);
-            put(out, REPLIES.crates, &[lists([&offer[0], &offer[1]]), message.clone()].concat())?;
+            put(out, CRATES, &[lists([&offer[0], &offer[1]]), message.clone()].concat())?;
             offer[which] = lacking(random, number, 3);
-            put(out, REPLIES.crates, &[lists([&offer[0], &offer[1]]), message].concat())?;
+            put(out, CRATES, &[lists([&offer[0], &offer[1]]), message].concat())?;
         }
     }
     Ok(())
@@ -161,7 +161,7 @@ fn longest(random: &mut Random, out: &mut impl Write) -> io::Result<()> {
         for length in [LONGEST - 1, LONGEST, LONGEST + 1] {
             let mut payload = [&lists[..], &message].concat();
             payload.resize(length, 0x80);
-            put(out, REPLIES.crates, &payload)?;
+            put(out, CRATES, &payload)?;
             let mut payload = limited(LARGEST_LIMIT, CELLS, &[&lists[..], &message].concat());
             payload.resize(length, 0x80);
             put(out, REPLIES.limited, &payload)?;
@@ -184,7 +184,7 @@ fn cut(out: &mut impl Write) -> io::Result<()> {
         };
         for end in ends {
             let lists = &lists[..end];
-            put(out, REPLIES.crates, lists)?;
+            put(out, CRATES, lists)?;
             put(out, REPLIES.limited, &limited(LARGEST_LIMIT, CELLS, lists))?;
             put(out, REPLIES.limited, &limited(LARGEST_LIMIT, CELLS + 1, lists))?;
             put(out, REPLIES.fed, lists)?;

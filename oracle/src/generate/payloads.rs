@@ -1,4 +1,5 @@
-//! The payloads of ops g, n, a, p, P and k, of f and F, and of v and V, and the lists in front of those of y, l and F.
+//! The payloads of ops g, n, a, p, P and k, of f, F, t and T, of v and V, and of s and S, and the lists in front of those of
+//! y, l, F, S and T.
 
 /// The tags of a tray's fields.
 pub const COOKIE: u8 = 1;
@@ -36,7 +37,7 @@ pub fn numbers(list: &[u16]) -> Vec<u8> {
     list.iter().flat_map(|number| number.to_be_bytes()).collect()
 }
 
-/// Ops y, l and F: the lists that were offered, protocols first.
+/// Ops y, l, F, S and T: the lists that were offered, protocols first.
 pub fn offered(lists: [&[u16]; 2]) -> Vec<u8> {
     let listed = |list: &[u16]| [vec![u8::try_from(list.len()).expect("a list's length")], numbers(list)].concat();
     lists.map(listed).concat()
@@ -77,7 +78,7 @@ pub fn request(protocols: &[u16], algorithms: &[u16], room: usize, used: usize, 
     [&counted(protocols)[..], &counted(algorithms), &long(room), &long(used), tray].concat()
 }
 
-/// Ops f and F: what a read is fed under, and whether the line is closed behind the pieces.
+/// Ops f, F, t and T: what a read is fed under, and whether the line is closed behind the pieces.
 #[derive(Clone, Copy)]
 pub struct Feed {
     pub limit: usize,
@@ -92,6 +93,11 @@ impl Feed {
         let head = [&long(self.limit)[..], &half(self.cells), &long(self.buffer), &[u8::from(self.close)]].concat();
         [head, half(pieces.len()).to_vec(), pieces.concat()].concat()
     }
+}
+
+/// Op s and, with the lists in front of the message, op S.
+pub fn under(limit: usize, cells: usize, message: &[u8]) -> Vec<u8> {
+    [&long(limit)[..], &half(cells), message].concat()
 }
 
 /// Op v.

@@ -2,24 +2,29 @@
 
 use std::io::{self, Write};
 
-use super::messages::{ENTRIES, Family, end, list_of, short, shuffle, unknown};
+use super::messages::{ENTRIES, Family, altered, end, list_of, short, shuffle, unknown};
 use super::record;
 use super::records::name;
 use super::tokens::{self, END};
 use crate::corpus::{CELLS, CRATES_LIMIT, LARGEST_LIMIT};
 use crate::random::Random;
 
+/// The op under the crate's limit.
+pub const CRATES: u8 = b'y';
+
 pub const REPLIES: Family = Family {
     name: "replies",
-    crates: b'y',
+    crates: Some(CRATES),
     largest: None,
     limited: b'l',
+    long_limit: false,
     fed: b'F',
     offered: true,
     entry: 5,
     repeated: &[5, 8, 15, 0x7fff],
     lists,
     message: reply,
+    altered,
     accepted,
     tokens: tokens::of_replies,
 };

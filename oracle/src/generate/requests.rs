@@ -1,20 +1,22 @@
 //! Requests of each sort.
 
-use super::messages::{ENTRIES, Family, end, list, short, shuffle, unknown, word};
+use super::messages::{ENTRIES, Family, altered, end, list, short, shuffle, unknown, word};
 use super::{record, tokens};
 use crate::random::Random;
 
 pub const REQUESTS: Family = Family {
     name: "requests",
-    crates: b'q',
+    crates: Some(b'q'),
     largest: Some(b'Q'),
     limited: b'L',
+    long_limit: false,
     fed: b'f',
     offered: false,
     entry: 13,
     repeated: &[13, 6, 8, 15, 0x7fff],
     lists,
     message: request,
+    altered,
     accepted,
     tokens: tokens::of_requests,
 };

@@ -4,6 +4,7 @@ use std::io::{self, BufRead, Write};
 
 use super::{choosing, findings, lines, pieces, plans, reading, replies, requests, sending, trays, writing};
 use crate::corpus::Cases;
+use crate::strict;
 
 pub fn corpus(input: impl BufRead, out: &mut impl Write) -> io::Result<bool> {
     let mut cases = Cases::new(io::BufReader::with_capacity(1 << 20, input));
@@ -21,7 +22,7 @@ pub fn corpus(input: impl BufRead, out: &mut impl Write) -> io::Result<bool> {
 }
 
 /// Writes the answer to a case; none where the op is unknown or the payload does not fit it.
-fn answered(line: &mut Vec<u8>, op: u8, payload: &[u8]) -> Option<()> {
+pub fn answered(line: &mut Vec<u8>, op: u8, payload: &[u8]) -> Option<()> {
     match op {
         b'r' => {
             reading::at_start(line, payload);
@@ -43,6 +44,7 @@ fn answered(line: &mut Vec<u8>, op: u8, payload: &[u8]) -> Option<()> {
         b'F' => pieces::reply(line, payload),
         b'v' => findings::walked(line, payload),
         b'V' => findings::decided(line, payload),
+        b's' | b'S' | b't' | b'T' => strict::answered(line, op, payload),
         b'w' => writing::written(line, payload),
         b'W' => writing::written_into(line, payload),
         b'X' => writing::written_part(line, payload),

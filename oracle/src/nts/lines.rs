@@ -2,8 +2,8 @@
 
 use std::io::Write;
 
-/// Where the crate as it stands and an edited copy ought to agree and do not, the line begins so, and the comparison fails
-/// by it.
+/// Where two answers of the oracle's ought to agree and do not, such as those of the crate as it stands and of an edited copy,
+/// the line begins so, and the comparison fails by it.
 pub const DISAGREES: &str = "ORACLE DISAGREES";
 
 const DIGITS: &[u8; 16] = b"0123456789abcdef";
@@ -55,14 +55,21 @@ pub fn refused_at(line: &mut Vec<u8>, refusal: u8, place: u64) {
 
 /// Tells both lines where the copy's, which stands in `line`, is not that of the crate as it stands.
 pub fn judged(line: &mut Vec<u8>, crates: &[u8], copy: &str) {
-    if crates != line {
-        let copys = std::mem::take(line);
+    agreed(line, copy, ("the crate", crates));
+}
+
+/// Tells both lines where the one that stands in `line` is not the other one.
+pub fn agreed(line: &mut Vec<u8>, whose: &str, (others, other): (&str, &[u8])) {
+    if other != line {
+        let ours = std::mem::take(line);
         text(line, DISAGREES);
-        text(line, ", the crate: ");
-        line.extend_from_slice(crates);
         text(line, ", ");
-        text(line, copy);
+        text(line, others);
         text(line, ": ");
-        line.extend_from_slice(&copys);
+        line.extend_from_slice(other);
+        text(line, ", ");
+        text(line, whose);
+        text(line, ": ");
+        line.extend_from_slice(&ours);
     }
 }

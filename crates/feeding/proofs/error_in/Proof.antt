@@ -1,4 +1,4 @@
--- `feeding::error_in` meets its contract: each arm is a test of the definition, and a number that is none of the first seventeen is the last.
+-- `feeding::error_in` meets its contract: each arm is a test of the definition, and a number that is none of the first eighteen is the last.
 -- Assumes nothing.
 use mathlib.Core.Path.{_≡_, refl, sym}
 use Rattle.nts.specs.Refusal.{errorIn}
@@ -77,15 +77,19 @@ returns-17 c = rw (c .match .keys17)
 
 returns-18 : tie.Need-returns-18
 unfolding errorIn hasBeside
-returns-18 c =
+returns-18 c = rw (c .match .keys18)
+
+returns-19 : tie.Need-returns-19
+unfolding errorIn hasBeside
+returns-19 c =
     let k = c .match .rest in
     let n = c .before .args .number in
     let last : n ≡ noAlgorithm =
     of-each (λ m. m ≡ n → n ≡ noAlgorithm)
-    (λ e. absurd (k .0 .0 .0 .0 .0 .0 .0 .0 .0 .0 .0 .0 .0 .0 .0 .0 .1 (sym e))) (λ e. absurd (k .0 .0 .0 .0 .0 .0 .0 .0 .0 .0 .0 .0 .0 .0 .0 .1 (sym e))) (λ e. absurd (k .0 .0 .0 .0 .0 .0 .0 .0 .0 .0 .0 .0 .0 .0 .1 (sym e))) (λ e. absurd (k .0 .0 .0 .0 .0 .0 .0 .0 .0 .0 .0 .0 .0 .1 (sym e))) (λ e. absurd (k .0 .0 .0 .0 .0 .0 .0 .0 .0 .0 .0 .0 .1 (sym e))) (λ e. absurd (k .0 .0 .0 .0 .0 .0 .0 .0 .0 .0 .0 .1 (sym e))) (λ e. absurd (k .0 .0 .0 .0 .0 .0 .0 .0 .0 .0 .1 (sym e))) (λ e. absurd (k .0 .0 .0 .0 .0 .0 .0 .0 .0 .1 (sym e))) (λ e. absurd (k .0 .0 .0 .0 .0 .0 .0 .0 .1 (sym e))) (λ e. absurd (k .0 .0 .0 .0 .0 .0 .0 .1 (sym e))) (λ e. absurd (k .0 .0 .0 .0 .0 .0 .1 (sym e))) (λ e. absurd (k .0 .0 .0 .0 .0 .1 (sym e))) (λ e. absurd (k .0 .0 .0 .0 .1 (sym e))) (λ e. absurd (k .0 .0 .0 .1 (sym e))) (λ e. absurd (k .0 .0 .1 (sym e))) (λ e. absurd (k .0 .1 (sym e))) (λ e. absurd (k .1 (sym e))) (λ e. sym e) n (c .before .pre) refl in
+    (λ e. absurd (k .0 .0 .0 .0 .0 .0 .0 .0 .0 .0 .0 .0 .0 .0 .0 .0 .0 .1 (sym e))) (λ e. absurd (k .0 .0 .0 .0 .0 .0 .0 .0 .0 .0 .0 .0 .0 .0 .0 .0 .1 (sym e))) (λ e. absurd (k .0 .0 .0 .0 .0 .0 .0 .0 .0 .0 .0 .0 .0 .0 .0 .1 (sym e))) (λ e. absurd (k .0 .0 .0 .0 .0 .0 .0 .0 .0 .0 .0 .0 .0 .0 .1 (sym e))) (λ e. absurd (k .0 .0 .0 .0 .0 .0 .0 .0 .0 .0 .0 .0 .0 .1 (sym e))) (λ e. absurd (k .0 .0 .0 .0 .0 .0 .0 .0 .0 .0 .0 .0 .1 (sym e))) (λ e. absurd (k .0 .0 .0 .0 .0 .0 .0 .0 .0 .0 .0 .1 (sym e))) (λ e. absurd (k .0 .0 .0 .0 .0 .0 .0 .0 .0 .0 .1 (sym e))) (λ e. absurd (k .0 .0 .0 .0 .0 .0 .0 .0 .0 .1 (sym e))) (λ e. absurd (k .0 .0 .0 .0 .0 .0 .0 .0 .1 (sym e))) (λ e. absurd (k .0 .0 .0 .0 .0 .0 .0 .1 (sym e))) (λ e. absurd (k .0 .0 .0 .0 .0 .0 .1 (sym e))) (λ e. absurd (k .0 .0 .0 .0 .0 .1 (sym e))) (λ e. absurd (k .0 .0 .0 .0 .1 (sym e))) (λ e. absurd (k .0 .0 .0 .1 (sym e))) (λ e. absurd (k .0 .0 .1 (sym e))) (λ e. absurd (k .0 .1 (sym e))) (λ e. absurd (k .1 (sym e))) (λ e. sym e) n (c .before .pre) refl in
     rw last
 
 pub error-in-spec : {M : Type 1} → statement M
 error-in-spec =
     tie.close
-    (tie.spec returns returns-2 returns-3 returns-4 returns-5 returns-6 returns-7 returns-8 returns-9 returns-10 returns-11 returns-12 returns-13 returns-14 returns-15 returns-16 returns-17 returns-18)
+    (tie.spec returns returns-2 returns-3 returns-4 returns-5 returns-6 returns-7 returns-8 returns-9 returns-10 returns-11 returns-12 returns-13 returns-14 returns-15 returns-16 returns-17 returns-18 returns-19)

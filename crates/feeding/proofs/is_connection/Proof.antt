@@ -7,10 +7,10 @@ use Rattle.feeding.proofs.is_connection.Tie as tie
 
 returns : tie.Need-returns
 unfolding isConnection
-returns c = rw (c .is-state .ensures)
+returns c = rw (c .before .is-state .ensures)
 
 pub is-connection-spec : {M : Type 1} → statement M
 is-connection-spec =
     tie.close
     (tie.spec (λ c. search needs) (λ c. search needs) (λ c. search needs) (λ c. search needs) (λ c. search needs) (λ c. search needs)
-    (λ c κs. search needs) returns)
+    (λ c κs. search needs) (λ c. search needs) returns)

@@ -3,7 +3,7 @@
 use mathlib.Core.Path.{sym, ap, _∙_}
 use denote.Ref.{now}
 use Rattle.pieces.specs.Pieces.{toldConnection}
-use Rattle.pieces.specs.Code.{toldScanned}
+use Rattle.pieces.specs.Code.{toldScanned, rulesOf}
 use Rattle.pieces.proofs.Taking.{smaller-below, unbroken, decides-places, waits-place, gathered-decides, gathered-fits, gathered-waits}
 use borrow.Author.Needs.{needs}
 use Rattle.pieces.proofs.gather.Statement.{statement}
@@ -20,30 +20,30 @@ part-scan-end c =
     let s = c .before .before .before .before in
     unbroken (toldConnection (s .args .connection)) (now (s .args .buffer)) (s .pre) .0
 
-add-t20 : tie.Need-add-t20
-add-t20 c =
-    let w = c .before .before .before in
-    let m = w .before .before .before in
-    let s = m .before .before .before in
-    let i = decides-places (now (s .args .rules)) (s .args .connection) (now (s .args .piece)) (s .args .closed) (now (s .args .buffer)) (s .pre) _ (m .smaller .ensures)
-    _ _ _ (ap toldScanned (sym (c .before .scanned .given .1)) ∙ w .scan .ensures) .1 in
-    search needs
-
 add-t21 : tie.Need-add-t21
 add-t21 c =
     let w = c .before .before .before in
     let m = w .before .before .before in
     let s = m .before .before .before in
-    let i = decides-places (now (s .args .rules)) (s .args .connection) (now (s .args .piece)) (s .args .closed) (now (s .args .buffer)) (s .pre) _ (m .smaller .ensures)
-    _ _ _ (ap toldScanned (sym (c .before .scanned .given .1)) ∙ w .scan .ensures) .0 in
+    let i = decides-places (rulesOf (s .args .connection) (now (s .args .rules))) (s .args .connection) (now (s .args .piece)) (s .args .closed) (now (s .args .buffer)) (s .pre) _ (m .smaller .ensures)
+    _ _ _ (ap toldScanned (sym (c .before .scanned .given .1)) ∙ w .scan .ensures) .1 in
     search needs
 
-add-t23 : tie.Need-add-t23
-add-t23 c =
+add-t22 : tie.Need-add-t22
+add-t22 c =
     let w = c .before .before .before in
     let m = w .before .before .before in
     let s = m .before .before .before in
-    let i = waits-place (now (s .args .rules)) (s .args .connection) (now (s .args .piece)) (s .args .closed) (now (s .args .buffer)) (s .pre) _ (m .smaller .ensures)
+    let i = decides-places (rulesOf (s .args .connection) (now (s .args .rules))) (s .args .connection) (now (s .args .piece)) (s .args .closed) (now (s .args .buffer)) (s .pre) _ (m .smaller .ensures)
+    _ _ _ (ap toldScanned (sym (c .before .scanned .given .1)) ∙ w .scan .ensures) .0 in
+    search needs
+
+add-t24 : tie.Need-add-t24
+add-t24 c =
+    let w = c .before .before .before in
+    let m = w .before .before .before in
+    let s = m .before .before .before in
+    let i = waits-place (rulesOf (s .args .connection) (now (s .args .rules))) (s .args .connection) (now (s .args .piece)) (s .args .closed) (now (s .args .buffer)) (s .pre) _ (m .smaller .ensures)
     _ _ (ap toldScanned (sym (c .before .scanned2 .given .1)) ∙ w .scan .ensures) in
     search needs
 
@@ -52,7 +52,7 @@ take-piece-requires c κs =
     let w = c .before .before .before .before in
     let m = w .before .before .before in
     let s = m .before .before .before in
-    gathered-fits (now (s .args .rules)) (s .args .connection) (now (s .args .piece)) (s .args .closed) (now (s .args .buffer)) (s .pre) _ (m .smaller .ensures)
+    gathered-fits (rulesOf (s .args .connection) (now (s .args .rules))) (s .args .connection) (now (s .args .piece)) (s .args .closed) (now (s .args .buffer)) (s .pre) _ (m .smaller .ensures)
     _ _ (ap toldScanned (sym (c .before .before .scanned2 .given .1)) ∙ w .scan .ensures)
 
 returns : tie.Need-returns
@@ -60,7 +60,7 @@ returns c =
     let w = c .before .before .before in
     let m = w .before .before .before in
     let s = m .before .before .before in
-    gathered-decides (now (s .args .rules)) (s .args .connection) (now (s .args .piece)) (s .args .closed) (now (s .args .buffer)) (s .pre) _ (m .smaller .ensures)
+    gathered-decides (rulesOf (s .args .connection) (now (s .args .rules))) (s .args .connection) (now (s .args .piece)) (s .args .closed) (now (s .args .buffer)) (s .pre) _ (m .smaller .ensures)
     _ _ _ (ap toldScanned (sym (c .before .scanned .given .1)) ∙ w .scan .ensures)
 
 returns-2 : tie.Need-returns-2
@@ -68,11 +68,11 @@ returns-2 c =
     let w = c .before .before .before .before .before .before .before in
     let m = w .before .before .before in
     let s = m .before .before .before in
-    gathered-waits (now (s .args .rules)) (s .args .connection) (now (s .args .piece)) (s .args .closed) (now (s .args .buffer)) (s .pre) _ (m .smaller .ensures)
+    gathered-waits (rulesOf (s .args .connection) (now (s .args .rules))) (s .args .connection) (now (s .args .piece)) (s .args .closed) (now (s .args .buffer)) (s .pre) _ (m .smaller .ensures)
     _ _ (ap toldScanned (sym (c .before .before .before .before .before .scanned2 .given .1)) ∙ w .scan .ensures) _ _ (c .before .before .take-piece .ensures)
 
 pub gather-spec : {M : Type 1} → statement M
 gather-spec =
     tie.close
-    (tie.spec (λ c κs. search needs) sub-scan part-scan-start part-scan-end (λ c κs. search needs) (λ c. search needs) add-t20 add-t21 (λ c. search needs)
-    add-t23 take-piece-requires (λ c. search needs) returns (λ c. search needs) returns-2)
+    (tie.spec (λ c κs. search needs) sub-scan part-scan-start part-scan-end (λ c κs. search needs) (λ c. search needs) add-t21 add-t22 (λ c. search needs)
+    add-t24 take-piece-requires (λ c. search needs) returns (λ c. search needs) returns-2)

@@ -13,11 +13,11 @@ use Rattle.pieces.proofs.reply_again.Tie as tie
 
 returns : tie.Need-returns
 unfolding replies.replyOf
-returns c = again-says replyRead (c .before .before .before .before .before .before .before .before .before .before .before .before .args .connection) (now (c .before .before .before .before .before .before .before .before .before .before .before .before .args .buffer)) _ (sym (ap replies.toldAnswer (c .before .answer .given .1)) ∙ c .before .before .before .judge .ensures .says ∙ told-own _ _ _ (c .before .before .before .before .before .before .before .before .before .named .ensures) _)
+returns c = again-says replyRead (c .before .before .before .before .before .before .before .before .before .before .before .before .args .connection) (now (c .before .before .before .before .before .before .before .before .before .before .before .before .args .buffer)) _ (sym (ap replies.toldAnswer (c .before .answer .given .1)) ∙ c .before .before .before .judge .ensures .says ∙ told-own _ _ _ _ (c .before .before .before .before .before .before .before .before .before .named .ensures) _)
 
 returns-2 : tie.Need-returns-2
 unfolding replies.replyOf
-returns-2 c = again-says replyRead (c .before .before .before .before .before .before .before .before .before .before .before .before .args .connection) (now (c .before .before .before .before .before .before .before .before .before .before .before .before .args .buffer)) _ (sym (ap replies.toldAnswer (c .before .answer2 .given .1)) ∙ c .before .before .before .judge .ensures .says ∙ told-own _ _ _ (c .before .before .before .before .before .before .before .before .before .named .ensures) _)
+returns-2 c = again-says replyRead (c .before .before .before .before .before .before .before .before .before .before .before .before .args .connection) (now (c .before .before .before .before .before .before .before .before .before .before .before .before .args .buffer)) _ (sym (ap replies.toldAnswer (c .before .answer2 .given .1)) ∙ c .before .before .before .judge .ensures .says ∙ told-own _ _ _ _ (c .before .before .before .before .before .before .before .before .before .named .ensures) _)
 
 pub reply-again-spec : {M : Type 1} → statement M
 reply-again-spec =

@@ -12,10 +12,10 @@ use Rattle.pieces.proofs.scan.Statement.{statement}
 use Rattle.pieces.proofs.scan.Tie as tie
 
 abbrev Inv-loop : tie.InvT-loop
-Inv-loop rules bytes met at₀ seen₀ at seen = Scanning (readerOf rules) met bytes at seen
+Inv-loop profile rules bytes met at₀ seen₀ at seen = Scanning (readerOf (record { profile = profile; entries = rules })) met bytes at seen
 
 abbrev μ-loop : tie.MeasureT-loop
-μ-loop rules bytes met at₀ seen₀ at seen = length bytes - at
+μ-loop profile rules bytes met at₀ seen₀ at seen = length bytes - at
 
 loop-holds : tie.Need-loop-holds Inv-loop μ-loop
 loop-holds c = scanning-start _ _ _
@@ -26,8 +26,8 @@ whole-size-requires c κs = c .loop .inv .inside
 returns : tie.Need-returns Inv-loop μ-loop
 returns c = scanning-stop _ _ _ _ _ (c .before .before .loop .inv) _ (c .before .whole-size .ensures) (c .if1 .taken)
 
-add-t10 : tie.Need-add-t10 Inv-loop μ-loop
-add-t10 c =
+add-t11 : tie.Need-add-t11 Inv-loop μ-loop
+add-t11 c =
     let e = c .before .before .before in
     let o = scanning-onward _ _ _ _ _ (e .before .before .loop .inv) _ (e .before .whole-size .ensures) (e .if1 .left) in
     let i = o .1 in
@@ -61,4 +61,4 @@ loop-again c =
 pub scan-spec : {M : Type 1} → statement M
 scan-spec =
     tie.close
-    (tie.spec Inv-loop μ-loop loop-holds whole-size-requires returns (λ c κs. search needs) (λ c. search needs) (λ c. search needs) add-t10 returns-2 add-at loop-less loop-again)
+    (tie.spec Inv-loop μ-loop loop-holds whole-size-requires returns (λ c κs. search needs) (λ c. search needs) (λ c. search needs) add-t11 returns-2 add-at loop-less loop-again)

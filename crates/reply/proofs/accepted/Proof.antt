@@ -2,8 +2,7 @@
 -- Assumes nothing.
 use mathlib.Core.Path.{ap, _∙_}
 use denote.Ref.{now}
-use Rattle.layout.specs.Table.{rowOf, shapeOf, isUnknown}
-use Rattle.walk.specs.Table.{known}
+use Rattle.layout.specs.Table.{rowOf, shapeOf}
 use Rattle.walk.specs.Shown.{slotOf}
 use Rattle.walk.specs.declared.Seen.{Seen}
 use Rattle.reply.specs.Code.{numberIn, sentIn, acceptedIn}
@@ -12,7 +11,7 @@ use Rattle.reply.proofs.accepted.Statement.{statement}
 use Rattle.reply.proofs.accepted.Tie as tie
 
 returns : tie.Need-returns
-unfolding acceptedIn slotOf known isUnknown shapeOf rowOf
+unfolding acceptedIn slotOf shapeOf rowOf
 returns c =
     let server = c .before .before .before .server-of .ensures ∙ ap (λ (x : Seen). sentIn x (record { start = x .start; len = x .len })) (c .before .before .before .before .found .ensures) in
     let port = c .before .port-of .ensures ∙ ap (λ (x : Seen). sentIn x (numberIn (now (c .before .before .before .before .before .before .args .message)) x)) (c .before .before .found2 .ensures) in

@@ -7,8 +7,7 @@ use denote.Ref.{now}
 use borrow.Author.Tests.{eq-eqb, ne-eqb}
 use Rattle.nts.specs.Refusal.{protocol, algorithm}
 use Rattle.negotiation.specs.Negotiation.{holds}
-use Rattle.layout.specs.Table.{rowOf, shapeOf, isUnknown}
-use Rattle.walk.specs.Table.{known}
+use Rattle.layout.specs.Table.{rowOf, shapeOf}
 use Rattle.walk.specs.Shown.{slotOf}
 use Rattle.walk.proofs.Verdicts.{taken, left}
 use Rattle.reply.specs.Reply.{offering, refusedWith, toldAnswer}
@@ -19,14 +18,14 @@ use Rattle.reply.proofs.decide.Statement.{statement}
 use Rattle.reply.proofs.decide.Tie as tie
 
 returns : tie.Need-returns
-unfolding slotOf known isUnknown shapeOf rowOf
+unfolding slotOf shapeOf rowOf
 returns c =
     ap toldAnswer (c .refused .ensures)
     ∙ taken _ _ _ (eq-eqb _ _ (c .before .if1 .taken))
     ∙ decided-is _ _ (offering (now (c .before .before .before .before .before .before .before .args .protocols)) (now (c .before .before .before .before .before .before .before .args .algorithms)) (c .before .before .before .before .before .before .before .args .room)) _ (c .before .before .before .before .before .before .before .pre) _ _ (c .before .before .before .found .ensures) refl
 
 returns-2 : tie.Need-returns-2
-unfolding slotOf known isUnknown shapeOf rowOf
+unfolding slotOf shapeOf rowOf
 returns-2 c =
     ap toldAnswer (c .refused2 .ensures)
     ∙ taken _ _ _ (eq-eqb _ _ (c .before .if2 .taken))
@@ -34,7 +33,7 @@ returns-2 c =
     ∙ decided-is _ _ (offering (now (c .before .before .before .before .before .before .before .before .before .args .protocols)) (now (c .before .before .before .before .before .before .before .before .before .args .algorithms)) (c .before .before .before .before .before .before .before .before .before .args .room)) _ (c .before .before .before .before .before .before .before .before .before .pre) _ _ (c .before .before .before .before .before .found .ensures) refl
 
 returns-3 : tie.Need-returns-3
-unfolding slotOf known isUnknown shapeOf rowOf
+unfolding slotOf shapeOf rowOf
 returns-3 c =
     ap toldAnswer (c .refused3 .ensures)
     ∙ taken _ _ _ (eq-eqb _ _ (c .before .if3 .taken))
@@ -43,7 +42,7 @@ returns-3 c =
     ∙ decided-is _ _ (offering (now (c .before .before .before .before .before .before .before .before .before .before .before .before .args .protocols)) (now (c .before .before .before .before .before .before .before .before .before .before .before .before .args .algorithms)) (c .before .before .before .before .before .before .before .before .before .before .before .before .args .room)) _ (c .before .before .before .before .before .before .before .before .before .before .before .before .pre) _ _ (c .before .before .before .before .before .before .before .before .found .ensures) (c .before .before .before .found2 .ensures)
 
 returns-4 : tie.Need-returns-4
-unfolding slotOf known isUnknown shapeOf rowOf
+unfolding slotOf shapeOf rowOf
 returns-4 c =
     ap toldAnswer (c .refused4 .ensures)
     ∙ taken _ _ _ (eq-eqb _ _ (c .before .if4 .taken))
@@ -53,7 +52,7 @@ returns-4 c =
     ∙ decided-is _ _ (offering (now (c .before .before .before .before .before .before .before .before .before .before .before .before .before .before .args .protocols)) (now (c .before .before .before .before .before .before .before .before .before .before .before .before .before .before .args .algorithms)) (c .before .before .before .before .before .before .before .before .before .before .before .before .before .before .args .room)) _ (c .before .before .before .before .before .before .before .before .before .before .before .before .before .before .pre) _ _ (c .before .before .before .before .before .before .before .before .before .before .found .ensures) (c .before .before .before .before .before .found2 .ensures)
 
 returns-5 : tie.Need-returns-5
-unfolding slotOf known isUnknown shapeOf rowOf
+unfolding slotOf shapeOf rowOf
 returns-5 c =
     ap toldAnswer (c .refused5 .ensures)
     ∙ ap (λ (n : ℕ). refusedWith (record { number = 17; beside = protocol n; place = c .before .before .before .before .before .before .before .before .before .before .before .before .before .before .before .before .before .before .args .place })) (c .before .before .before .before .number-in .ensures)
@@ -65,7 +64,7 @@ returns-5 c =
     ∙ decided-is _ _ (offering (now (c .before .before .before .before .before .before .before .before .before .before .before .before .before .before .before .before .before .before .args .protocols)) (now (c .before .before .before .before .before .before .before .before .before .before .before .before .before .before .before .before .before .before .args .algorithms)) (c .before .before .before .before .before .before .before .before .before .before .before .before .before .before .before .before .before .before .args .room)) _ (c .before .before .before .before .before .before .before .before .before .before .before .before .before .before .before .before .before .before .pre) _ _ (c .before .before .before .before .before .before .before .before .before .before .before .before .before .before .found .ensures) (c .before .before .before .before .before .before .before .before .before .found2 .ensures)
 
 returns-6 : tie.Need-returns-6
-unfolding slotOf known isUnknown shapeOf rowOf
+unfolding slotOf shapeOf rowOf
 returns-6 c =
     ap toldAnswer (c .refused6 .ensures)
     ∙ ap (λ (n : ℕ). refusedWith (record { number = 17; beside = algorithm n; place = c .before .before .before .before .before .before .before .before .before .before .before .before .before .before .before .before .before .before .before .before .args .place })) (c .before .before .before .before .before .number-in2 .ensures)
@@ -78,7 +77,7 @@ returns-6 c =
     ∙ decided-is _ _ (offering (now (c .before .before .before .before .before .before .before .before .before .before .before .before .before .before .before .before .before .before .before .before .args .protocols)) (now (c .before .before .before .before .before .before .before .before .before .before .before .before .before .before .before .before .before .before .before .before .args .algorithms)) (c .before .before .before .before .before .before .before .before .before .before .before .before .before .before .before .before .before .before .before .before .args .room)) _ (c .before .before .before .before .before .before .before .before .before .before .before .before .before .before .before .before .before .before .before .before .pre) _ _ (c .before .before .before .before .before .before .before .before .before .before .before .before .before .before .before .before .found .ensures) (c .before .before .before .before .before .before .before .before .before .before .before .found2 .ensures)
 
 returns-7 : tie.Need-returns-7
-unfolding slotOf known isUnknown shapeOf rowOf
+unfolding slotOf shapeOf rowOf
 returns-7 c =
     c .with-cookies .ensures
     ∙ (λ j. cookiesFor (c .before .before .before .before .before .before .before .before .before .before .before .before .before .before .before .before .before .before .before .before .args .room) (c .before .before .before .before .before .before .before .before .before .before .before .before .before .before .before .before .before .before .before .before .args .place) (now (c .before .before .before .before .before .before .before .before .before .before .before .before .before .before .before .before .before .before .before .before .args .message)) (now (c .before .before .before .before .before .before .before .before .before .before .before .before .before .before .before .before .before .before .before .before .args .cells)) (c .before .before .before .before .before .before .number-in .ensures j) (c .before .before .before .before .before .number-in2 .ensures j))

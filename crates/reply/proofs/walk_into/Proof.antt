@@ -10,7 +10,7 @@ use Rattle.reply.proofs.walk_into.Statement.{statement}
 use Rattle.reply.proofs.walk_into.Tie as tie
 
 returns : tie.Need-returns
-returns c = c .walk .ensures ∙ ap (λ (R : Reader). foundBy R (now (c .before .before .before .before .args .message)) (c .before .before .before .before .args .limit)) table-reader
+returns c = c .walk .ensures ∙ ap (λ (R : Reader). foundBy R (now (c .before .before .before .before .args .message)) (c .before .before .before .before .args .limit)) (table-reader (c .before .before .before .before .args .profile))
 
 pub walk-into-spec : {M : Type 1} → statement M
 walk-into-spec = tie.close (tie.spec (λ c κs. search needs) returns)

@@ -4,8 +4,7 @@ use mathlib.Core.Path.{ap, _∙_}
 use Prim.Native.Nat.{ℕ}
 use borrow.Author.Tests.{eq-eqb, ne-eqb, lt-ltb, le-ltb}
 use denote.Ref.{now}
-use Rattle.layout.specs.Table.{rowOf, shapeOf, isUnknown}
-use Rattle.walk.specs.Table.{known}
+use Rattle.layout.specs.Table.{rowOf, shapeOf}
 use Rattle.walk.specs.Shown.{slotOf}
 use Rattle.walk.specs.declared.Seen.{Seen}
 use Rattle.walk.proofs.Verdicts.{taken, left}
@@ -17,14 +16,14 @@ use Rattle.reply.proofs.with_cookies.Statement.{statement}
 use Rattle.reply.proofs.with_cookies.Tie as tie
 
 returns : tie.Need-returns
-unfolding slotOf known isUnknown shapeOf rowOf
+unfolding slotOf shapeOf rowOf
 returns c =
     ap toldAnswer (c .refused .ensures)
     ∙ taken _ _ _ (eq-eqb _ _ (c .before .if1 .taken))
     ∙ cookies-is _ _ _ _ _ _ _ (ap (λ (x : Seen). x .count) (c .before .before .before .found .ensures))
 
 returns-2 : tie.Need-returns-2
-unfolding slotOf known isUnknown shapeOf rowOf
+unfolding slotOf shapeOf rowOf
 returns-2 c =
     ap toldAnswer (c .refused2 .ensures)
     ∙ taken _ _ _ (lt-ltb _ _ (c .before .if2 .taken))
@@ -32,7 +31,7 @@ returns-2 c =
     ∙ cookies-is _ _ _ _ _ _ _ (ap (λ (x : Seen). x .count) (c .before .before .before .before .found .ensures))
 
 returns-3 : tie.Need-returns-3
-unfolding slotOf known isUnknown shapeOf rowOf
+unfolding slotOf shapeOf rowOf
 returns-3 c =
     c .accepted .ensures
     ∙ left _ _ _ (le-ltb _ _ (c .before .if2 .left))

@@ -4,8 +4,7 @@ use mathlib.Core.Path.{sym, ap, _∙_}
 use Prim.Native.Nat.{_/_}
 use denote.Ref.{now}
 use Rattle.wire.specs.Bytes.{numberAt}
-use Rattle.layout.specs.Table.{rowOf, shapeOf, isUnknown}
-use Rattle.walk.specs.Table.{known}
+use Rattle.layout.specs.Table.{rowOf, shapeOf}
 use Rattle.walk.specs.Shown.{slotOf}
 use Rattle.walk.specs.declared.Seen.{Seen}
 use Rattle.request.specs.Request.{toldAnswer}
@@ -15,15 +14,15 @@ use Rattle.request.proofs.decide_keys.Statement.{statement}
 use Rattle.request.proofs.decide_keys.Tie as tie
 
 returns : tie.Need-returns
-unfolding slotOf known isUnknown shapeOf rowOf
+unfolding slotOf shapeOf rowOf
 returns c = c .fixed-key .ensures ∙ right-keys _ _ _ (c .before .before .before .before .before .before .before .before .before .before .before .before .before .pre .0) (c .before .before .before .before .before .before .before .before .before .before .before .before .before .pre .1) (c .before .before .before .before .before .before .before .before .before .before .before .before .before .pre .2) _ _ (c .before .before .before .before .before .before .before .before .number-at .ensures ∙ ap (λ (v : Seen). numberAt (now (c .before .before .before .before .before .before .before .before .before .before .before .before .before .args .message)) (v .start)) (c .before .before .before .before .before .before .before .before .before .before .found2 .ensures)) (c .before .before .before .before .before .before .before .description .ensures) _ (c .before .before .before .before .before .description2 .given .1) (sym (ap (λ (v : Seen). v .len / 2) (c .before .before .before .before .before .before .before .before .before .before .before .found .ensures)) ∙ c .before .if1 .taken)
 
 returns-2 : tie.Need-returns-2
-unfolding slotOf known isUnknown shapeOf rowOf
+unfolding slotOf shapeOf rowOf
 returns-2 c = ap toldAnswer (c .refused .ensures) ∙ wrong-keys _ _ _ (c .before .before .before .before .before .before .before .before .before .before .before .before .before .pre .0) (c .before .before .before .before .before .before .before .before .before .before .before .before .before .pre .1) (c .before .before .before .before .before .before .before .before .before .before .before .before .before .pre .2) _ _ (c .before .before .before .before .before .before .before .before .number-at .ensures ∙ ap (λ (v : Seen). numberAt (now (c .before .before .before .before .before .before .before .before .before .before .before .before .before .args .message)) (v .start)) (c .before .before .before .before .before .before .before .before .before .before .found2 .ensures)) (c .before .before .before .before .before .before .before .description .ensures) _ (c .before .before .before .before .before .description2 .given .1) (λ e. c .before .if1 .left (ap (λ (v : Seen). v .len / 2) (c .before .before .before .before .before .before .before .before .before .before .before .found .ensures) ∙ e))
 
 returns-3 : tie.Need-returns-3
-unfolding slotOf known isUnknown shapeOf rowOf
+unfolding slotOf shapeOf rowOf
 returns-3 c = ap toldAnswer (c .refused2 .ensures) ∙ no-algorithm _ _ _ (c .before .before .before .before .before .before .before .before .before .pre .0) (c .before .before .before .before .before .before .before .before .before .pre .1) (c .before .before .before .before .before .before .before .before .before .pre .2) _ _ (c .before .before .before .before .number-at .ensures ∙ ap (λ (v : Seen). numberAt (now (c .before .before .before .before .before .before .before .before .before .args .message)) (v .start)) (c .before .before .before .before .before .before .found2 .ensures)) (c .before .before .before .description .ensures) (c .before .enum-told .given .1)
 
 pub decide-keys-spec : {M : Type 1} → statement M

@@ -9,13 +9,13 @@ use Rattle.request.proofs.settle.Statement.{statement}
 use Rattle.request.proofs.settle.Tie as tie
 
 returns : tie.Need-returns
-returns c = reads-none _ _ (now (c .before .before .before .before .before .args .table)) _ (c .before .before .decision .ensures) _ (c .before .denied-in .ensures) (c .if1 .taken)
+returns c = reads-none _ _ _ (now (c .before .before .before .before .before .args .table)) _ (c .before .before .decision .ensures) _ (c .before .denied-in .ensures) (c .if1 .taken)
 
 part-fill-end : tie.Need-part-fill-end
-part-fill-end c = place-inside (now (c .before .before .before .before .before .args .message)) (asFinding (c .before .before .before .before .before .args .walked) (now (c .before .before .before .before .before .args .cells))) (c .before .before .before .before .before .pre)
+part-fill-end c = place-inside (c .before .before .before .before .before .args .profile) (now (c .before .before .before .before .before .args .message)) (asFinding (c .before .before .before .before .before .args .walked) (now (c .before .before .before .before .before .args .cells))) (c .before .before .before .before .before .pre)
 
 returns-2 : tie.Need-returns-2
-returns-2 c = reads-names _ _ (now (c .before .before .before .before .before .before .before .before .before .before .args .table)) _ (c .before .before .before .before .before .before .before .decision .ensures) _ (c .before .before .before .before .before .before .denied-in .ensures) (omega arith) (c .before .before .before .before .before .if1 .left) _ (place-is (now (c .before .before .before .before .before .before .before .before .before .before .args .message)) (asFinding (c .before .before .before .before .before .before .before .before .before .before .args .walked) (now (c .before .before .before .before .before .before .before .before .before .before .args .cells))) (c .before .before .before .before .before .before .before .before .before .before .pre)) _ _ (c .before .before .fill .ensures)
+returns-2 c = reads-names _ _ _ (now (c .before .before .before .before .before .before .before .before .before .before .args .table)) _ (c .before .before .before .before .before .before .before .decision .ensures) _ (c .before .before .before .before .before .before .denied-in .ensures) (omega arith) (c .before .before .before .before .before .if1 .left) _ (place-is (c .before .before .before .before .before .before .before .before .before .before .args .profile) (now (c .before .before .before .before .before .before .before .before .before .before .args .message)) (asFinding (c .before .before .before .before .before .before .before .before .before .before .args .walked) (now (c .before .before .before .before .before .before .before .before .before .before .args .cells))) (c .before .before .before .before .before .before .before .before .before .before .pre)) _ _ (c .before .before .fill .ensures)
 
 pub settle-spec : {M : Type 1} → statement M
 settle-spec =

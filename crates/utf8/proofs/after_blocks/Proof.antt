@@ -3,10 +3,12 @@
 -- Assumes nothing.
 use borrow.Author.Needs.{needs}
 use borrow.Author.Tests.{not-false}
+use mathlib.Core.Path.{sym, _∙_}
 use Prim.Native.Nat.{_-_, _≤_}
 use native.Mathlib.Omega.{arith}
 use lib.ListN.{length}
 use Rattle.utf8.specs.Lead.{Passed}
+use Rattle.utf8.proofs.Ascii.{ascii-each}
 use Rattle.utf8.proofs.Run.{passed-none, passed-block}
 use Rattle.utf8.proofs.after_blocks.Statement.{statement}
 use Rattle.utf8.proofs.after_blocks.Tie as tie
@@ -50,7 +52,7 @@ loop-again c = (
       _
       (c .before .before .before .before .loop .inv .0)
       (search needs)
-      (c .before .is-ascii .ensures (not-false _ (c .if1 .left))),
+      (ascii-each _ (sym (c .before .is-ascii .ensures) ∙ not-false _ (c .if1 .left))),
   search needs,
 )
 

@@ -1,26 +1,24 @@
--- `utf8::is_ascii` meets its contract. The loop's invariant: where none of the bytes so far was found above 7F, they are all ASCII.
+-- `utf8::is_ascii` meets its contract. The loop's invariant: whether all of the bytes so far are ASCII.
 -- Assumes nothing.
 use borrow.Author.Needs.{needs}
-use mathlib.Core.Path.{_≡_, sym, _∙_}
-use mathlib.Core.Bool.{true}
+use mathlib.Core.Path.{_≡_, refl}
 use mathlib.Core.Logic.{⊎-elim}
 use Prim.Native.Nat.{_-_}
-use native.Mathlib.Omega.{arith}
-use lib.ListN.{length}
-use Rattle.utf8.specs.Lead.{Ascii}
-use Rattle.utf8.proofs.Run.{ascii-none, ascii-more}
-use Rattle.utf8.proofs.Tests.{never}
+use lib.ListN.{length, take}
+use Rattle.utf8.specs.Ascii.{isAscii}
+use Rattle.utf8.proofs.Ascii.{ascii-above, ascii-kept, ascii-whole}
 use Rattle.utf8.proofs.is_ascii.Statement.{statement}
 use Rattle.utf8.proofs.is_ascii.Tie as tie
 
 abbrev Inv-loop : tie.InvT-loop
-Inv-loop s all₀ i₀ all i = all ≡ true → Ascii s i
+Inv-loop s all₀ i₀ all i = all ≡ isAscii (take i s)
 
 abbrev μ-loop : tie.MeasureT-loop
 μ-loop s all₀ i₀ all i = length s - i
 
 loop-holds : tie.Need-loop-holds Inv-loop μ-loop
-loop-holds c e = ascii-none _
+unfolding isAscii
+loop-holds c = refl
 
 shared-slice-read-if1 : tie.Need-shared-slice-read-if1 Inv-loop μ-loop
 shared-slice-read-if1 c = search needs
@@ -32,14 +30,16 @@ loop-less : tie.Need-loop-less Inv-loop μ-loop
 loop-less c = search needs
 
 loop-again : tie.Need-loop-again Inv-loop μ-loop
-loop-again c e =
+loop-again c =
+    let s = c .before .before .before .before .args .s .now in
+    let i = c .before .before .before .loop .i in
     ⊎-elim
-    (λ w. never (sym (w .1) ∙ e))
-    (λ w. ascii-more (c .before .before .before .loop .inv (sym (w .1) ∙ e)) (w .0 .left))
+    (λ w. ascii-above s i _ (search needs) (w .0 .taken) (w .1))
+    (λ w. ascii-kept s i _ _ (search needs) (w .0 .left) (w .1) (c .before .before .before .loop .inv))
     (c .if1 .came)
 
 returns : tie.Need-returns Inv-loop μ-loop
-returns c e = record { each = λ k h. c .before .loop .inv e .each k (omega (arith, c .loop-test .left)) }
+returns c = ascii-whole _ _ _ (c .loop-test .left) (c .before .loop .inv)
 
 pub is-ascii-spec : {M : Type 1} → statement M
 is-ascii-spec =

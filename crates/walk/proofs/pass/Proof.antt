@@ -5,7 +5,7 @@ use native.Mathlib.Omega.{arith}
 use Rattle.record.specs.Told.{toldLooked}
 use Rattle.record.proofs.Read.{look-inside}
 use Rattle.walk.specs.Met.{on}
-use Rattle.walk.proofs.Looking.{slot-below}
+use Rattle.walk.proofs.Looking.{slot-within, slot-is}
 use Rattle.walk.proofs.Marks.{passedBy, passing-broken, passing-whole}
 use borrow.Author.Needs.{needs}
 use Rattle.walk.proofs.pass.Statement.{statement}
@@ -15,39 +15,42 @@ returns : tie.Need-returns
 returns c = passing-broken _ _ _ _ _ _ (c .before .before .look .ensures) (c .enum-told .given .1)
 
 add-start : tie.Need-add-start
-add-start c = omega (arith, look-inside _ _ _ _ _ (ap toldLooked (sym (c .before .before .answer .given .1)) ∙ c .before .before .before .before .look .ensures), c .before .before .before .before .before .shared-slice-known .given 0)
+add-start c = omega (arith, look-inside _ _ _ _ _ _ (ap toldLooked (sym (c .before .before .before .answer .given .1)) ∙ c .before .before .before .before .before .look .ensures), c .before .before .before .before .before .before .shared-slice-known .given 0)
 
 element-copy-out-judged : tie.Need-element-copy-out-judged
-element-copy-out-judged c = slot-below _ _ (c .slot-of .ensures)
+element-copy-out-judged c = slot-within _ _ (c .slot-of .ensures)
 
 met-before-requires : tie.Need-met-before-requires
-met-before-requires c κs = slot-below _ _ (c .before .slot-of .ensures)
+met-before-requires c κs = slot-within _ _ (c .before .slot-of .ensures)
+
+judged-requires : tie.Need-judged-requires
+judged-requires c κs = slot-within _ _ (c .before .before .slot-of .ensures)
 
 with-met-requires : tie.Need-with-met-requires
-with-met-requires c κs = slot-below _ _ (c .before .before .before .before .before .slot-of .ensures)
+with-met-requires c κs = slot-within _ _ (c .before .before .before .before .before .slot-of .ensures)
 
 returns-2 : tie.Need-returns-2
 returns-2 c =
     let j = c .before .before .before in
     let s = j .before .before .before in
     ap on (c .with-met .ensures) ∙ ap (passedBy _ _) (sym (c .before .enum-told2 .given .1))
-    ∙ passing-whole _ _ _ _ _ _ _ _ _ _ (ap toldLooked (sym (s .before .before .answer .given .1)) ∙ s .before .before .before .before .look .ensures) (s .slot-of .ensures) (j .before .met-before .ensures) (j .judged .ensures)
+    ∙ passing-whole _ _ _ _ _ _ _ _ _ _ (ap toldLooked (sym (s .before .before .before .answer .given .1)) ∙ s .before .before .before .before .before .look .ensures) (slot-is _ _ _ _ (s .slot-of .ensures) (s .before .taken .ensures)) (j .before .met-before .ensures) (j .judged .ensures)
 
 returns-3 : tie.Need-returns-3
 returns-3 c =
     let j = c .before .before in
     let s = j .before .before .before in
     ap (passedBy _ _) (sym (c .enum-told3 .given .1))
-    ∙ passing-whole _ _ _ _ _ _ _ _ _ _ (ap toldLooked (sym (s .before .before .answer .given .1)) ∙ s .before .before .before .before .look .ensures) (s .slot-of .ensures) (j .before .met-before .ensures) (j .judged .ensures)
+    ∙ passing-whole _ _ _ _ _ _ _ _ _ _ (ap toldLooked (sym (s .before .before .before .answer .given .1)) ∙ s .before .before .before .before .before .look .ensures) (slot-is _ _ _ _ (s .slot-of .ensures) (s .before .taken .ensures)) (j .before .met-before .ensures) (j .judged .ensures)
 
 returns-4 : tie.Need-returns-4
 returns-4 c =
     let j = c .before .before in
     let s = j .before .before .before in
     ap (passedBy _ _) (sym (c .enum-told4 .given .1))
-    ∙ passing-whole _ _ _ _ _ _ _ _ _ _ (ap toldLooked (sym (s .before .before .answer .given .1)) ∙ s .before .before .before .before .look .ensures) (s .slot-of .ensures) (j .before .met-before .ensures) (j .judged .ensures)
+    ∙ passing-whole _ _ _ _ _ _ _ _ _ _ (ap toldLooked (sym (s .before .before .before .answer .given .1)) ∙ s .before .before .before .before .before .look .ensures) (slot-is _ _ _ _ (s .slot-of .ensures) (s .before .taken .ensures)) (j .before .met-before .ensures) (j .judged .ensures)
 
 pub pass-spec : {M : Type 1} → statement M
 pass-spec =
     tie.close
-    (tie.spec (λ c κs. search needs) (λ c. search needs) (λ c. search needs) returns (λ c κs. search needs) add-start element-copy-out-judged met-before-requires (λ c κs. search needs) (λ c. search needs) with-met-requires (λ c. search needs) (λ c. search needs) returns-2 returns-3 returns-4)
+    (tie.spec (λ c κs. search needs) (λ c. search needs) (λ c. search needs) returns (λ c κs. search needs) (λ c κs. search needs) add-start element-copy-out-judged met-before-requires judged-requires (λ c. search needs) with-met-requires (λ c. search needs) (λ c. search needs) returns-2 returns-3 returns-4)

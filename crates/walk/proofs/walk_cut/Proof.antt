@@ -12,10 +12,10 @@ use Rattle.walk.proofs.walk_cut.Statement.{statement}
 use Rattle.walk.proofs.walk_cut.Tie as tie
 
 abbrev Inv-loop : tie.InvT-loop
-Inv-loop rules cut cells₀ at₀ cells at = Going rules cut at cells
+Inv-loop profile rules cut cells₀ at₀ cells at = Going (record { profile = profile; entries = rules }) cut at cells
 
 abbrev μ-loop : tie.MeasureT-loop
-μ-loop rules cut cells₀ at₀ cells at = length cut - at
+μ-loop profile rules cut cells₀ at₀ cells at = length cut - at
 
 loop-holds : tie.Need-loop-holds Inv-loop μ-loop
 loop-holds c = going-start _ _ _ stands-start

@@ -58,6 +58,9 @@ enum-known-self-4 c = search needs
 enum-known-self-5 : tie.Need-enum-known-self-5
 enum-known-self-5 c = search needs
 
+enum-told-14 : tie.Need-enum-told-14
+enum-told-14 c = search needs
+
 returns : tie.Need-returns
 returns c = rw (c .enum-told .given .1)
 
@@ -112,6 +115,9 @@ returns-17 c = rw (c .before .self4 .given .1)
 returns-18 : tie.Need-returns-18
 returns-18 c = rw (c .before .self5 .given .1)
 
+returns-19 : tie.Need-returns-19
+returns-19 c = rw (c .enum-told14 .given .1)
+
 pub code-spec : {M : Type 1} → statement M
 code-spec =
     tie.close
@@ -134,6 +140,7 @@ code-spec =
     enum-told-13
     enum-known-self-4
     enum-known-self-5
+    enum-told-14
     returns
     returns-2
     returns-3
@@ -151,4 +158,5 @@ code-spec =
     returns-15
     returns-16
     returns-17
-    returns-18)
+    returns-18
+    returns-19)

@@ -13,9 +13,6 @@ Inv-loop expected protocols algorithms calls case buffer₀ table₀ i₀ fed₀
 abbrev μ-loop : tie.MeasureT-loop
 μ-loop expected protocols algorithms calls case buffer₀ table₀ i₀ fed₀ buffer table i fed = calls - i
 
-begun-requires : tie.Need-begun-requires Inv-loop μ-loop
-begun-requires c κs = search needs
-
 loop-holds : tie.Need-loop-holds Inv-loop μ-loop
 loop-holds c = search needs
 
@@ -46,7 +43,6 @@ feed-each-spec =
     (tie.spec
     Inv-loop
     μ-loop
-    begun-requires
     loop-holds
     feed-next-requires
     add-i

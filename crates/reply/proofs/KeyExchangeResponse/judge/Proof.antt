@@ -9,13 +9,13 @@ use Rattle.reply.proofs.KeyExchangeResponse.judge.Statement.{statement}
 use Rattle.reply.proofs.KeyExchangeResponse.judge.Tie as tie
 
 decide-requires : tie.Need-decide-requires
-decide-requires c κs = judged-fits (now (c .before .before .before .before .before .before .before .before .args .message)) (c .before .before .before .before .before .before .before .before .args .limit) (offering (now (c .before .before .before .before .before .before .before .before .args .protocols)) (now (c .before .before .before .before .before .before .before .before .args .algorithms)) (c .before .before .before .before .before .before .before .before .args .room)) (asFinding (c .before .before .before .walk-into .result) _) (c .before .before .before .walk-into .ensures) (c .before .enum-told .given .1)
+decide-requires c κs = judged-fits (c .before .before .before .before .before .before .before .before .args .profile) (now (c .before .before .before .before .before .before .before .before .args .message)) (c .before .before .before .before .before .before .before .before .args .limit) (offering (now (c .before .before .before .before .before .before .before .before .args .protocols)) (now (c .before .before .before .before .before .before .before .before .args .algorithms)) (c .before .before .before .before .before .before .before .before .args .room)) (asFinding (c .before .before .before .walk-into .result) _) (c .before .before .before .walk-into .ensures) (c .before .enum-told .given .1)
 
 returns : tie.Need-returns
-returns c = judged-ended _ _ _ (asFinding (c .before .before .before .before .walk-into .result) _) (c .before .before .before .before .walk-into .ensures) (c .before .before .enum-told .given .1) _ (c .decide .ensures)
+returns c = judged-ended _ _ _ _ (asFinding (c .before .before .before .before .walk-into .result) _) (c .before .before .before .before .walk-into .ensures) (c .before .before .enum-told .given .1) _ (c .decide .ensures)
 
 returns-2 : tie.Need-returns-2
-returns-2 c = judged-refused _ _ _ (asFinding (c .before .before .before .before .walk-into .result) _) (c .before .before .before .before .walk-into .ensures) _ (c .before .before .stop .given .1) _ (c .refused .ensures)
+returns-2 c = judged-refused _ _ _ _ (asFinding (c .before .before .before .before .walk-into .result) _) (c .before .before .before .before .walk-into .ensures) _ (c .before .before .stop .given .1) _ (c .refused .ensures)
 
 pub judge-spec : {M : Type 1} → statement M
 judge-spec =

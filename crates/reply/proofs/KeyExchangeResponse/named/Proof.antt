@@ -4,8 +4,7 @@ use mathlib.Core.Path.{ap, _∙_}
 use mathlib.Core.List.{List}
 use Prim.Native.Nat.{ℕ}
 use denote.Ref.{now}
-use Rattle.layout.specs.Table.{rowOf, shapeOf, isUnknown}
-use Rattle.walk.specs.Table.{known}
+use Rattle.layout.specs.Table.{rowOf, shapeOf}
 use Rattle.walk.specs.Shown.{slotOf}
 use Rattle.walk.specs.Found.{entryIn}
 use Rattle.walk.specs.Finding.{Found}
@@ -16,7 +15,7 @@ use Rattle.reply.proofs.KeyExchangeResponse.named.Statement.{statement}
 use Rattle.reply.proofs.KeyExchangeResponse.named.Tie as tie
 
 returns : tie.Need-returns
-unfolding namedBy numberIn slotOf known isUnknown shapeOf rowOf
+unfolding namedBy numberIn slotOf shapeOf rowOf
 returns c =
     let m = now (c .before .before .before .before .before .before .before .before .before .args .message) in
     let cells = ap (λ (f : Found). f .cells) (c .before .before .before .before .before .before .walk-into .ensures) in (
