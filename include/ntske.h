@@ -579,8 +579,9 @@ uint64_t ntske_version(void);
 /* ---- reading ----------------------------------------------------------------------------------
  *
  * A message is read as if it were cut after `limit` bytes, through its first end record; what
- * follows is not looked at. A table has two cells a name or cookie, start and length, in the
- * message's order; cells past the last one stay as they are.
+ * follows is not looked at, but for whether a byte does in the strict profile. A table has two
+ * cells a name or cookie, start and length, in the message's order; cells past the last one stay as
+ * they are.
  *
  * 1 does not say that more bytes would help, nor another number that they would not. So a host that
  * takes a message off a line does not call these again and again: it reads in pieces.
@@ -766,8 +767,8 @@ uint64_t ntske_connection_new_strict(uint16_t limit, struct ntske_connection *co
 
 /*
  * A piece of a request, and the close of its line, after which the read waits no more. Refusals: 9
- * (its place is 0), 1 to 7, 16 and, in the strict profile, 18, at a place; and the one that the
- * connection holds.
+ * (its place is 0); 16 and 1 to 7, or in the strict profile 16, 1 to 4 and 18, at a place; and the
+ * one that the connection holds.
  */
 uint64_t ntske_feed_request(struct ntske_connection *connection, const uint8_t *piece,
                             size_t piece_len, uint8_t *buffer, size_t buffer_len, uint16_t *table,

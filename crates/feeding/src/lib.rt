@@ -73,7 +73,7 @@ pub extern "C" fn ntske_feed_request(
     ensures { λ r. ⌜ Feeds requestRead requestGiven (now (connection .entry)) (now (buffer .entry)) (record { piece = now (piece .entry); closed = false }) (roomFor (roomOf (now (table .entry)))) (now (table .entry)) (now (answer .entry))
         r (now (connection .exit)) (now (buffer .exit)) (now (table .exit)) (now (answer .exit)) ⌝ }
 {
-    fed_request(connection, false, piece, buffer, table, answer)
+    fed_request(connection, buffer, table, answer, false, piece)
 }
 
 // Says that the line of a request closed: the read waits no more.
@@ -88,7 +88,7 @@ pub extern "C" fn ntske_close_request(
         r (now (connection .exit)) (now (buffer .exit)) (now (table .exit)) (now (answer .exit)) ⌝ }
 {
     let nothing = [0u8; 1];
-    fed_request(connection, true, &nothing[0..0], buffer, table, answer)
+    fed_request(connection, buffer, table, answer, true, &nothing[0..0])
 }
 
 // The same of a reply to one who offered these protocols and algorithms, with the answer and the table as ntske_read_reply gives them. The lists count that are
@@ -108,13 +108,13 @@ pub extern "C" fn ntske_feed_reply(
 {
     fed_reply(
         connection,
+        buffer,
+        table,
+        answer,
         false,
         piece,
         protocols,
         algorithms,
-        buffer,
-        table,
-        answer,
     )
 }
 
@@ -134,24 +134,25 @@ pub extern "C" fn ntske_close_reply(
     let nothing = [0u8; 1];
     fed_reply(
         connection,
+        buffer,
+        table,
+        answer,
         true,
         &nothing[0..0],
         protocols,
         algorithms,
-        buffer,
-        table,
-        answer,
     )
 }
 
-// Either call of a request: the connection that the cells hold is handed on, and put again.
+// Either call of a request: the connection that the cells hold is handed on, and put again. What is written stands first, so that what the call got on the stack goes on in
+// registers: two words that are moved on the stack as one wait until both are stored.
 fn fed_request(
     connection: &mut [usize; 9],
-    closed: bool,
-    piece: &[u8],
     buffer: &mut [u8],
     table: &mut [u16],
     answer: &mut [usize; 10],
+    closed: bool,
+    piece: &[u8],
 ) -> u64
     ensures { λ r. ⌜ Feeds requestRead requestGiven (now (connection .entry)) (now (buffer .entry)) (record { piece = now (piece .entry); closed = closed }) (roomFor (roomOf (now (table .entry)))) (now (table .entry)) (now (answer .entry))
         r (now (connection .exit)) (now (buffer .exit)) (now (table .exit)) (now (answer .exit)) ⌝ }
@@ -173,16 +174,16 @@ fn fed_request(
     }
 }
 
-// Either call of a reply.
+// Either call of a reply, in the same order.
 fn fed_reply(
     connection: &mut [usize; 9],
+    buffer: &mut [u8],
+    table: &mut [u16],
+    answer: &mut [usize; 9],
     closed: bool,
     piece: &[u8],
     protocols: &[u16],
     algorithms: &[u16],
-    buffer: &mut [u8],
-    table: &mut [u16],
-    answer: &mut [usize; 9],
 ) -> u64
     ensures { λ r. ⌜ Feeds replyRead replyGiven (now (connection .entry)) (now (buffer .entry)) (record { piece = now (piece .entry); closed = closed }) (offering (now (protocols .entry)) (now (algorithms .entry)) (roomOf (now (table .entry)))) (now (table .entry)) (now (answer .entry))
         r (now (connection .exit)) (now (buffer .exit)) (now (table .exit)) (now (answer .exit)) ⌝ }

@@ -72,10 +72,10 @@ pub extern "C" fn ntske_read_reply(
         Profile::Usual,
         message,
         limit,
-        protocols,
-        algorithms,
         table,
         answer,
+        protocols,
+        algorithms,
     )
 }
 
@@ -96,10 +96,10 @@ pub extern "C" fn ntske_read_reply_strict(
         Profile::Strict,
         message,
         limit,
-        protocols,
-        algorithms,
         table,
         answer,
+        protocols,
+        algorithms,
     )
 }
 
@@ -165,15 +165,15 @@ fn read_request(
     }
 }
 
-// Either call of a reply, in the same way.
+// Either call of a reply, in the same way. The offers stand last, so that the table and the answer, which the call got on the stack, go on in registers.
 fn read_reply(
     profile: Profile,
     message: &[u8],
     limit: u16,
-    protocols: &[u16],
-    algorithms: &[u16],
     table: &mut [u16],
     answer: &mut [usize; 9],
+    protocols: &[u16],
+    algorithms: &[u16],
 ) -> u64
     ensures { λ r. ⌜ ReadsReply profile (now (message .entry)) limit (now (protocols .entry)) (now (algorithms .entry)) (now (table .entry)) (now (answer .entry)) r (now (table .exit)) (now (answer .exit)) ⌝ }
 {

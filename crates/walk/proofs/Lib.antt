@@ -11,6 +11,7 @@ pub mod Unnoted
 pub mod Verdicts
 pub mod Written
 pub mod Looking
+pub mod Seeing
 pub mod Meeting
 pub mod Standing
 pub mod Going

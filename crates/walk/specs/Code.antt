@@ -7,9 +7,10 @@ use lib.ListN.{getD, set}
 use lib.Dec.{ltb, eqb}
 use Rattle.wire.specs.Bytes.{numberAt, partAt}
 use Rattle.nts.specs.declared.NtsError.{NtsError}
+use Rattle.nts.specs.declared.Refusal.{Refusal}
 use Rattle.layout.specs.Profile.{asksOf, isFinal, shapeIn, allows}
 use Rattle.layout.specs.declared.Profile.{Profile}
-use Rattle.record.specs.Record.{lookAt}
+use Rattle.record.specs.Record.{whole, lookAt}
 use Rattle.record.specs.Told.{toldLooked}
 use Rattle.record.specs.declared.Looked.{Looked}
 use Rattle.record.specs.declared.Looked.the-variants as looked
@@ -19,6 +20,8 @@ use Rattle.walk.specs.Found.{entryIn}
 use Rattle.walk.specs.declared.Seen.{Seen}
 use Rattle.walk.specs.declared.Verdict.{Verdict}
 use Rattle.walk.specs.declared.Verdict.the-variants.{On, End, Stop}
+use Rattle.walk.specs.declared.View.{View}
+use Rattle.walk.specs.declared.View.the-variants as view
 use Rattle.walk.specs.declared.Stepped.{Stepped}
 use Rattle.walk.specs.declared.Walked.{Walked}
 use Rattle.walk.specs.declared.Stop.the-variants as stop
@@ -86,6 +89,26 @@ pub record Met (r : ℕ) (x : Asked) (j start n : ℕ) (c : List ℕ) (v : Verdi
 -- the body that the cells tell of a kind which the table's entries note lies inside a message of n bytes
 unfoldable pub Fits : List ℕ → ℕ → List ℕ → Type 0
 Fits entries n c = (k : ℕ) → k < 15 → eqb k 11 ≡ false → isNoted (getD entries k 0) ≡ true → entryIn c k .start + entryIn c k .len ≤ n
+
+-- ---- what is seen of a record
+
+-- it reads: its kind, of the place `slot` in the table, its bit and its size; and whether the profile allows it
+pub record Sees (P : Profile) (s : List ℕ) (at slot : ℕ) (bit : Bool) (n : ℕ) (ok : Bool) : Type 0 where
+  pub kind : ℕ
+  pub looks : whole kind bit n ≡ lookAt (shapeIn P) s at
+  pub stands : slot ≡ slotOf (shapeIn P) kind
+  pub allowed : asked P s slot bit (at + 4) n .allowed ≡ ok
+
+-- it does not read
+pub record Breaks (P : Profile) (s : List ℕ) (at : ℕ) (v : Verdict) : Type 0 where
+  pub refusal : Refusal
+  pub looks : toldLooked (looked.Refused refusal) ≡ lookAt (shapeIn P) s at
+  pub says : v ≡ Stop (refusal .error)
+
+abbrev pub Views : Profile → List ℕ → ℕ → View → Type 0
+Views P s at (view.Whole slot bit n) = Sees P s at slot bit n true
+Views P s at (view.NotAllowed slot bit n) = Sees P s at slot bit n false
+Views P s at (view.Unread v) = Breaks P s at v
 
 -- ---- one step
 

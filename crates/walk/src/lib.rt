@@ -23,7 +23,7 @@ ghost use Rattle.walk.specs.Rules.{Rules, readerOf};
 ghost use Rattle.walk.specs.Found.{entryIn, toldIn, wayBy, Walks};
 ghost use Rattle.walk.specs.Finding.{sameNumbers, sortIn, sameBeside, sameWay, sameFound, foundBy, asFinding, toldFinding};
 ghost use Rattle.walk.specs.Met.{isMet, withMet, passing, ends, toldPassed};
-ghost use Rattle.walk.specs.Code.{errorOf, asked, atMost, ruledOf, unknownOf, meantOf, verdictOf, endedIn, moreIn, Met, Few, lookedOf, Steps};
+ghost use Rattle.walk.specs.Code.{errorOf, atMost, ruledOf, unknownOf, meantOf, endedIn, moreIn, Few, lookedOf, Views, Steps};
 
 // What a table's entry says of a record of its kind: it ends the message; it is passed over; it is noted; it is noted, and a second one is refused
 // with 4; the same, with at most one entry; it is refused with 11 or 12 and its code; it is refused with 4, as by any other number.
@@ -124,6 +124,21 @@ enum Verdict {
     Stop(NtsError),
 }
 
+// What a walk sees of a record: where its kind stands, its critical bit and its body's size, of one that the profile allows or of one that it does not; or, of one that does not read, what that does to the walk.
+enum View {
+    Whole {
+        slot: usize,
+        critical: bool,
+        size: u16,
+    },
+    NotAllowed {
+        slot: usize,
+        critical: bool,
+        size: u16,
+    },
+    Unread(Verdict),
+}
+
 // One step: the verdict, and where it lets the walk go on the place after the record.
 struct Stepped {
     verdict: Verdict,
@@ -191,26 +206,24 @@ pub fn is_there(cells: &[u16; 45], kind: u16) -> bool
 pub fn pass(profile: Profile, rules: &[u8; 15], bytes: &[u8], at: usize, met: u16) -> Passed
     ensures { λ r. ⌜ toldPassed r ≡ passing (readerOf (record { profile = profile; entries = now (rules .entry) })) met (drop at (now (bytes .entry))) ⌝ }
 {
-    let answer = record::look(profile, bytes, at);
-    let Looked::Whole(seen) = answer else {
-        return Passed::Stopped;
-    };
-    let slot = slot_of(profile.taken(seen.kind));
-    let start = at + NtsRecord::HEADER;
-    let verdict = judged(
-        profile,
-        rules[slot],
-        slot,
-        seen.critical,
-        met_before(met, slot),
-        bytes,
-        start,
-        seen.size,
-    );
-    match verdict {
-        Verdict::On => Passed::On(with_met(met, slot)),
-        Verdict::End => Passed::Stopped,
-        Verdict::Stop(_) => Passed::Stopped,
+    let view = view_at(profile, bytes, at);
+    match view {
+        View::Whole {
+            slot,
+            critical,
+            size,
+        } => {
+            let before = met_before(met, slot);
+            let start = at + NtsRecord::HEADER;
+            let verdict = meant(rules[slot], slot, critical, before, bytes, start, size);
+            match verdict {
+                Verdict::On => Passed::On(with_met(met, slot)),
+                Verdict::End => Passed::Stopped,
+                Verdict::Stop(_) => Passed::Stopped,
+            }
+        }
+        View::NotAllowed { .. } => Passed::Stopped,
+        View::Unread(_) => Passed::Stopped,
     }
 }
 
@@ -218,26 +231,23 @@ pub fn pass(profile: Profile, rules: &[u8; 15], bytes: &[u8], at: usize, met: u1
 pub fn is_end(profile: Profile, rules: &[u8; 15], bytes: &[u8], at: usize) -> bool
     ensures { λ r. ⌜ r ≡ ends (readerOf (record { profile = profile; entries = now (rules .entry) })) (drop at (now (bytes .entry))) ⌝ }
 {
-    let answer = record::look(profile, bytes, at);
-    let Looked::Whole(seen) = answer else {
-        return false;
-    };
-    let slot = slot_of(profile.taken(seen.kind));
-    let start = at + NtsRecord::HEADER;
-    let verdict = judged(
-        profile,
-        rules[slot],
-        slot,
-        seen.critical,
-        0,
-        bytes,
-        start,
-        seen.size,
-    );
-    match verdict {
-        Verdict::On => false,
-        Verdict::End => true,
-        Verdict::Stop(_) => false,
+    let view = view_at(profile, bytes, at);
+    match view {
+        View::Whole {
+            slot,
+            critical,
+            size,
+        } => {
+            let start = at + NtsRecord::HEADER;
+            let verdict = meant(rules[slot], slot, critical, 0, bytes, start, size);
+            match verdict {
+                Verdict::On => false,
+                Verdict::End => true,
+                Verdict::Stop(_) => false,
+            }
+        }
+        View::NotAllowed { .. } => false,
+        View::Unread(_) => false,
     }
 }
 
@@ -376,33 +386,66 @@ fn walk_cut(profile: Profile, rules: &[u8; 15], cut: &[u8], cells: &mut [u16; 45
     }
 }
 
-// One record: a look at it, and what the table says of it.
+// One record: what is seen of it, and what the table says of it. What the profile does not allow is counted, and refused before its meaning.
 fn step(profile: Profile, rules: &[u8; 15], cut: &[u8], at: usize, cells: &mut [u16; 45]) -> Stepped
     requires { ⌜ (length (now cut) < 2 ^ 16) × Few (now cells) at ⌝ }
     ensures { λ r. ⌜ Steps (record { profile = profile; entries = now (rules .entry) }) (now (cut .entry)) at (now (cells .entry)) r (now (cells .exit)) ⌝ }
 {
-    let answer = record::look(profile, cut, at);
+    let view = view_at(profile, cut, at);
+    match view {
+        View::Whole {
+            slot,
+            critical,
+            size,
+        } => {
+            let start = at + NtsRecord::HEADER;
+            let verdict = meet(cells, rules[slot], slot, critical, cut, start, size);
+            let next = start + size as usize;
+            Stepped { verdict, next }
+        }
+        View::NotAllowed {
+            slot,
+            critical: _,
+            size,
+        } => {
+            let start = at + NtsRecord::HEADER;
+            count_more(cells, slot, start as u16, size);
+            let next = start + size as usize;
+            Stepped {
+                verdict: Verdict::Stop(NtsError::NotAllowed),
+                next,
+            }
+        }
+        View::Unread(verdict) => Stepped { verdict, next: at },
+    }
+}
+
+// What is seen of the record at a place, in a profile. Every walk asks it here: the look, and what a profile asks, are long and stand once, and the rest is short enough to stand in each loop.
+fn view_at(profile: Profile, bytes: &[u8], at: usize) -> View
+    ensures { λ r. ⌜ Views profile (now (bytes .entry)) at r ⌝ }
+{
+    let answer = record::look(profile, bytes, at);
     let Looked::Whole(x) = answer else {
-        return Stepped {
-            verdict: by_look(answer),
-            next: at,
-        };
+        return View::Unread(by_look(answer));
     };
-    let start = at + NtsRecord::HEADER;
     let slot = slot_of(profile.taken(x.kind));
-    let verdict = meet(
-        profile,
-        cells,
-        rules[slot],
+    let critical = x.critical;
+    let size = x.size;
+    let body = Part {
+        start: at + NtsRecord::HEADER,
+        len: size as usize,
+    };
+    if profile.allows(slot as u16, critical, bytes, body) {
+        return View::Whole {
+            slot,
+            critical,
+            size,
+        };
+    }
+    View::NotAllowed {
         slot,
-        x.critical,
-        cut,
-        start,
-        x.size,
-    );
-    Stepped {
-        verdict,
-        next: start + x.size as usize,
+        critical,
+        size,
     }
 }
 
@@ -430,9 +473,8 @@ fn slot_of(kind: u16) -> usize
     UNKNOWN
 }
 
-// One record met, by its kind's entry: it is counted, also where it is refused.
+// One record met that the profile allows, by its kind's entry: it is counted, also where it is refused.
 fn meet(
-    profile: Profile,
     cells: &mut [u16; 45],
     rule: u8,
     slot: usize,
@@ -442,10 +484,10 @@ fn meet(
     size: u16,
 ) -> Verdict
     requires { ⌜ (slot < 15) × (start < 2 ^ 16) × (entryIn (now cells) slot .count + 1 < 2 ^ 16) ⌝ }
-    ensures { λ r. ⌜ Met rule (asked profile (now (cut .entry)) slot critical start size) slot start size (now (cells .entry)) r (now (cells .exit)) ⌝ }
+    ensures { λ r. ⌜ (r ≡ meantOf rule slot critical (errorOf slot (numberAt (now (cut .entry)) start)) (entryIn (now (cells .entry)) slot .count) size) × (now (cells .exit) ≡ moreIn (now (cells .entry)) slot start size) ⌝ }
 {
     let c = slot * 3;
-    let verdict = judged(profile, rule, slot, critical, cells[c], cut, start, size);
+    let verdict = meant(rule, slot, critical, cells[c], cut, start, size);
     count_more(cells, slot, start as u16, size);
     verdict
 }
@@ -464,30 +506,6 @@ fn count_more(cells: &mut [u16; 45], slot: usize, start: u16, len: u16)
         cells[d] = start;
         cells[e] = len;
     }
-}
-
-// What the profile does not allow is refused before its meaning.
-fn judged(
-    profile: Profile,
-    rule: u8,
-    slot: usize,
-    critical: bool,
-    before: u16,
-    cut: &[u8],
-    start: usize,
-    size: u16,
-) -> Verdict
-    requires { ⌜ slot < 15 ⌝ }
-    ensures { λ r. ⌜ r ≡ verdictOf rule (asked profile (now (cut .entry)) slot critical start size) before size ⌝ }
-{
-    let body = Part {
-        start,
-        len: size as usize,
-    };
-    if profile.allows(slot as u16, critical, cut, body) {
-        return meant(rule, slot, critical, before, cut, start, size);
-    }
-    Verdict::Stop(NtsError::NotAllowed)
 }
 
 // An unknown kind is not asked of the table. What is noted however often it stands comes first, since there may be many.
