@@ -11,7 +11,7 @@ const BATCH: Duration = Duration::from_micros(500);
 const BATCHES: usize = 600;
 
 /// How many rows there are.
-const ROWS: usize = 14;
+const ROWS: usize = 16;
 
 /// Ends the run where the two sides' answers differ.
 pub fn same<T: PartialEq + Debug>(name: &str, ours: T, others: T) {

@@ -14,11 +14,21 @@ pub fn request(names: usize) -> Vec<u8> {
     let mut message = LISTS.to_vec();
     for index in 0..names {
         message.extend([0, 13, 0, 28]);
-        message.extend(format!("server-{index:09}.ntp.example").bytes());
+        message.extend(name(index));
     }
     message.extend(END);
     assert_eq!(message.len(), 16 + 32 * names);
     message
+}
+
+/// A name of 28 bytes.
+fn name(index: usize) -> Vec<u8> {
+    format!("server-{index:09}.ntp.example").into_bytes()
+}
+
+/// So many of them.
+pub fn names(count: usize) -> Vec<Vec<u8>> {
+    (0..count).map(name).collect()
 }
 
 /// A key-exchange request behind two hundred records of unknown kind, each of 16 bytes and with its bit clear.
@@ -62,6 +72,11 @@ pub fn two_byte() -> Vec<u8> {
     ('\u{0400}'..='\u{04ff}').cycle().take(32767).collect::<String>().into_bytes()
 }
 
+/// The euro sign, three bytes, as often as a name can hold it.
+pub fn three_byte() -> Vec<u8> {
+    "\u{20ac}".repeat(21845).into_bytes()
+}
+
 /// A message, and it cut at some places.
 pub fn cuts(message: &[u8]) -> Vec<&[u8]> {
     let step = message.len() / 200 + 1;
@@ -70,7 +85,7 @@ pub fn cuts(message: &[u8]) -> Vec<&[u8]> {
 
 /// A text, and it with a byte changed at some places.
 pub fn damaged(text: &[u8]) -> Vec<Vec<u8>> {
-    let places = (0..40).chain((40..text.len()).step_by(997)).chain(text.len() - 40..text.len());
+    let places = (0..text.len()).filter(|place| *place < 40 || text.len() - place <= 40 || place % 997 == 40);
     let changed = places.flat_map(|place| [0x41, 0x80, 0xc3, 0xe2, 0xff].map(|byte| (place, byte)));
     let mut all: Vec<Vec<u8>> = changed
         .map(|(place, byte)| {

@@ -210,20 +210,31 @@ fn records() {
     );
 }
 
-/// The longest name of ASCII, and of two-byte characters, against the standard library's checker.
+/// The longest name of ASCII, of two-byte and of three-byte characters, and a thousand names as they come, against the standard library's
+/// checker.
 fn names() {
-    for (name, text, bar) in [("utf8ascii", inputs::ascii(), 0.5), ("utf8mixed", inputs::two_byte(), 1.0)] {
-        for damaged in inputs::damaged(&text) {
+    let rows = [
+        ("utf8ascii", vec![inputs::ascii()], 0.5),
+        ("utf8mixed", vec![inputs::two_byte()], 1.0),
+        ("utf8three", vec![inputs::three_byte()], 1.0),
+        ("utf8names", inputs::names(1000), 1.0),
+    ];
+    for (name, texts, bar) in rows {
+        for damaged in texts.iter().flat_map(|text| inputs::damaged(text)) {
             clock::same(name, ours::is_utf8(&damaged), std::str::from_utf8(&damaged).is_ok());
         }
         row(
             name,
             bar,
             || {
-                black_box(ours::is_utf8(black_box(&text)));
+                for text in &texts {
+                    black_box(ours::is_utf8(black_box(text)));
+                }
             },
             || {
-                black_box(std::str::from_utf8(black_box(&text)).is_ok());
+                for text in &texts {
+                    black_box(std::str::from_utf8(black_box(text)).is_ok());
+                }
             },
         );
     }

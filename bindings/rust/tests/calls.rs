@@ -1123,10 +1123,17 @@ fn utf8_is_judged() {
         assert!(!is_utf8(&hex(text)));
         assert_eq!(Name::from_utf8(&hex(text)), None);
     }
+    // every lead byte with every second one, whole and broken behind it: alone, twice, and with ASCII around it
+    let behind: [&[u8]; 9] = [b"", b"\x80", b"\xBF", b"\x7F", b"\xC0", b"\x80\xBF", b"\xBF\x7F", b"\x80\xC0", b"\x80\xBF\x80"];
     for first in 0..=255 {
+        assert_eq!(is_utf8(&[first]), std::str::from_utf8(&[first]).is_ok());
         for second in 0..=255 {
-            let pair = [first, second];
-            assert_eq!(is_utf8(&pair), std::str::from_utf8(&pair).is_ok());
+            for rest in behind {
+                let text = [&[first, second], rest].concat();
+                for text in [&text[..], &[&text[..], &text].concat(), &[b"a", &text[..], b"bcdef"].concat()] {
+                    assert_eq!(is_utf8(text), std::str::from_utf8(text).is_ok(), "{text:02X?}");
+                }
+            }
         }
     }
 }

@@ -41,3 +41,4 @@ pub mod Counting
 pub mod Findings
 pub mod FindingsFace
 pub mod Strictness
+pub mod Leads

@@ -2,6 +2,8 @@ pub mod Tests
 pub mod Below
 pub mod Rows
 pub mod Ascii
+pub mod Classes
 pub mod Run
+pub mod Alike
 pub mod Same
 pub mod Grammar

@@ -2,16 +2,15 @@
 -- Assumes nothing.
 use mathlib.Core.Path.{_≡_, refl, sym, subst, _∙_}
 use mathlib.Core.Bool.{Bool, true, false}
-use mathlib.Core.Logic.{⊎-elim}
 use mathlib.Core.List.{List, [], _∷_}
 use Prim.Native.Nat.{ℕ, zero, suc, _+_, _-_, _<_, _≤_, zero-le, suc-le-suc}
-use native.Mathlib.Nat.{le-refl, not-suc-le-zero, eq-or-lt-of-le, add-zero, add-sub-cancel-left}
+use native.Mathlib.Nat.{le-refl, add-zero}
 use native.Mathlib.Omega.{arith}
 use borrow.Author.Tests.{le-leb}
 use lib.ListN.{length, getD, take, drop, length-drop, drop-of-length-le}
 use lib.Seq.{length-take-le, drop-cons, drop-drop, getD-drop, getD-take}
 use Rattle.utf8.specs.Utf8.{rows, fits, charSize, octets, wellFormed}
-use Rattle.utf8.specs.Lead.{leadSize, second, sizeOf, sizeAt, Ascii, Passed}
+use Rattle.utf8.specs.Lead.{sizeAt, Ascii, Passed}
 use Rattle.utf8.proofs.Rows.{same-size}
 use Rattle.utf8.proofs.Tests.{never, on, and-right}
 
@@ -28,7 +27,7 @@ size-inside [] s = zero-le
 size-inside (row ∷ table) s = on (fits row s) (λ e. rw e (fits-inside row s e)) (λ e. rw e (size-inside table s))
 
 -- the rest of a character begun is passed over
-pub octets-drop : (k : ℕ) (s : List ℕ) → octets k s ≡ octets 0 (drop k s)
+octets-drop : (k : ℕ) (s : List ℕ) → octets k s ≡ octets 0 (drop k s)
 unfolding octets
 octets-drop zero s = refl
 octets-drop (suc k) [] = refl
@@ -60,7 +59,7 @@ module _ (s : List ℕ) (at : ℕ) (h : at < length s) where
   pub at-inside : (n : ℕ) → n ≡ sizeAt s at → at + n ≤ length s
   at-inside n e = omega (arith, e ∙ same-size s at h, size-inside rows (drop at s), length-drop at s)
 
-  pub at-ascii : getD s at 0 ≤ 0x7F → wellFormed (drop (at + 1) s) ≡ wellFormed (drop at s)
+  at-ascii : getD s at 0 ≤ 0x7F → wellFormed (drop (at + 1) s) ≡ wellFormed (drop at s)
   unfolding rows fits charSize
   at-ascii l =
       rw (← drop-drop 1 at s)
@@ -69,42 +68,29 @@ module _ (s : List ℕ) (at : ℕ) (h : at < length s) where
 pub passed-none : (s : List ℕ) (at : ℕ) → Passed s at at
 passed-none s at = record { onward = le-refl at; inside = λ h. h; same = refl }
 
-pub passed-more : {s : List ℕ} {at i : ℕ} → Passed s at i → i < length s → getD s i 0 ≤ 0x7F → Passed s at (i + 1)
+pub passed-on : {s : List ℕ} {at i r : ℕ} → Passed s at i → Passed s i r → Passed s at r
+passed-on p q =
+    record { onward = omega (arith, p .onward, q .onward); inside = λ h. q .inside (p .inside h); same = q .same ∙ p .same }
+
+passed-more : {s : List ℕ} {at i : ℕ} → Passed s at i → i < length s → getD s i 0 ≤ 0x7F → Passed s at (i + 1)
 passed-more {s} {at} {i} p h l = record { onward = omega arith; inside = λ k. omega arith; same = at-ascii s i h l ∙ p .same }
 
--- no byte, and one more ASCII byte
-pub ascii-none : (s : List ℕ) → Ascii s 0
-ascii-none s = record { each = λ k h. absurd (not-suc-le-zero h) }
-
-pub ascii-more : {s : List ℕ} {n : ℕ} → Ascii s n → getD s n 0 ≤ 0x7F → Ascii s (n + 1)
-ascii-more {s} {n} a l =
-    record { each = λ k h. let m : k ≤ n = omega arith in ⊎-elim (λ e. rw e l) (λ b. a .each k b) (eq-or-lt-of-le m) }
-
--- a block of ASCII bytes is passed, one of them after the other: n bytes from a place on, and the same read from their slice
+-- a block of ASCII bytes is passed, one of them after the other: n bytes from a place on, and from a place inside a block what is left of it, read from the
+-- block's slice
 passed-all : {s : List ℕ} {at i : ℕ} (n : ℕ) → Passed s at i → i + n ≤ length s → ((k : ℕ) → k < n → getD s (i + k) 0 ≤ 0x7F) → Passed s at (i + n)
 passed-all {s} {at} {i} zero p h a = rw add-zero p
 passed-all {s} {at} {i} (suc n) p h a =
     subst (λ (r : ℕ). Passed s at r) (omega arith)
     (passed-more (passed-all n p (omega arith) (λ k l. a k (omega arith))) (omega arith) (a n (omega arith)))
 
-pub passed-block : {s : List ℕ} {at i : ℕ} (n : ℕ) → Passed s at i → i + n ≤ length s
-    → Ascii (take (i + n - i) (drop i s)) (length (take (i + n - i) (drop i s))) → Passed s at (i + n)
-passed-block {s} {at} {i} n p h a =
-    let e : length (take (i + n - i) (drop i s)) ≡ n = rw add-sub-cancel-left (length-take-le n (drop i s) (omega (arith, length-drop i s))) in
-    passed-all n p h
-    (λ k l.
-    let t : getD (take (i + n - i) (drop i s)) k 0 ≡ getD s (i + k) 0 = getD-take (i + n - i) (drop i s) k 0 (omega arith) ∙ getD-drop i s k 0 in
-    rw (← t) (a .each k (omega (arith, e))))
-
--- a sequence of two bytes: its lead byte and its second alone say so
-pub at-pair : (s : List ℕ) (at : ℕ) → leadSize (getD s at 0) ≡ 2 → second (getD s at 0) (getD s (at + 1) 0) ≡ true → 2 ≡ sizeAt s at
-unfolding sizeAt sizeOf
-at-pair s at e q = rw (e, q) refl
-
-pub passed-pair : {s : List ℕ} {at i : ℕ} → Passed s at i → i < length s → leadSize (getD s i 0) ≡ 2 → second (getD s i 0) (getD s (i + 1) 0) ≡ true → Passed s at (i + 2)
-passed-pair {s} {at} {i} p h e q =
-    record {
-      onward = omega (arith, p .onward);
-      inside = λ k. at-inside s i h 2 (at-pair s i e q);
-      same = at-some s i h 2 (at-pair s i e q) (λ z. omega arith) ∙ p .same;
-    }
+pub passed-block : {s : List ℕ} {at i start end : ℕ} → Passed s at i → start ≤ i → i ≤ end → end ≤ length s
+    → Ascii (take (end - start) (drop start s)) (length (take (end - start) (drop start s))) → Passed s at end
+passed-block {s} {at} {i} {start} {end} p l m h a =
+    let e : length (take (end - start) (drop start s)) ≡ end - start = length-take-le (end - start) (drop start s) (omega (arith, length-drop start s)) in
+    subst (λ (r : ℕ). Passed s at r) (omega arith)
+    (passed-all (end - i) p (omega arith)
+    (λ k b.
+    let j : ℕ = i - start + k in
+    let q : start + j ≡ i + k = omega arith in
+    let t : getD (take (end - start) (drop start s)) j 0 ≡ getD s (start + j) 0 = getD-take (end - start) (drop start s) j 0 (omega arith) ∙ getD-drop start s j 0 in
+    subst (λ (n : ℕ). getD s n 0 ≤ 0x7F) q (rw (← t) (a .each j (omega (arith, e))))))

@@ -1,3 +1,4 @@
 pub mod Utf8
 pub mod Lead
 pub mod Ascii
+pub mod Class

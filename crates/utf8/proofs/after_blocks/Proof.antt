@@ -5,7 +5,6 @@ use borrow.Author.Needs.{needs}
 use borrow.Author.Tests.{not-false}
 use mathlib.Core.Path.{sym, _∙_}
 use Prim.Native.Nat.{_-_, _≤_}
-use native.Mathlib.Omega.{arith}
 use lib.ListN.{length}
 use Rattle.utf8.specs.Lead.{Passed}
 use Rattle.utf8.proofs.Ascii.{ascii-each}
@@ -49,8 +48,9 @@ loop-less c = search needs
 loop-again : tie.Need-loop-again Inv-loop μ-loop
 loop-again c = (
   passed-block
-      _
       (c .before .before .before .before .loop .inv .0)
+      (search needs)
+      (search needs)
       (search needs)
       (ascii-each _ (sym (c .before .is-ascii .ensures) ∙ not-false _ (c .if1 .left))),
   search needs,
