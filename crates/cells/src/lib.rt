@@ -1,5 +1,7 @@
 // What the calls share that a host in C or Rust links: numbers, slices and arrays, thin over the other crates. Each call returns one word, 0 or a refusal, and
 // answers into cells that the host lends, which a refusal leaves as they are.
+#![tactic(auto)]
+
 ghost use Rattle.std.specs.Prelude.{◌≡◌};
 ghost use Rattle.nts.specs.Refusal.{number_of, beside_of, beside_number, told_code};
 ghost use Rattle.layout.specs.Write.{told_count};

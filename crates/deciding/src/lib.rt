@@ -1,6 +1,8 @@
 // The two halves of reading a request in the usual profile, for a host in C or Rust: the walk, which tells what a message held, accepted or not, and the decision
 // from that. A finding is forty-eight cells of sixteen bits: the limit, the place and the reason of the stop (0 the end record, otherwise the refusal's number), and
 // three of each kind from 0 to 14, unknown ones together under 11: how many records, and start and length of the first one's body.
+#![tactic(auto)]
+
 ghost use Rattle.std.specs.Prelude.{◌≡◌, ℕ, ◌<◌, ◌≤◌};
 ghost use Rattle.nts.specs.Refusal.{told_refusal};
 ghost use Rattle.walk.specs.Found.{way_by};

@@ -1,4 +1,6 @@
 // The writers of the replies that choose nothing.
+#![tactic(auto)]
+
 ghost use Rattle.std.specs.Prelude.{length};
 ghost use Rattle.layout.specs.Write.{bytes, fitted, Wrote};
 ghost use Rattle.messages.specs.Messages.{message_of, no_protocol_records, no_algorithm_records, error_records};

@@ -1,6 +1,8 @@
 // The calls that feed a request or a reply in pieces, for a host in C or Rust, which keeps the connection as nine cells: the limit, the bytes gathered, where
 // the record that is being gathered begins, the kinds met, whether there is an answer (0 none, 1 accepted, 2 refused), a refusal's number with what was not
 // offered, the number beside it and its place, and the profile (0 usual, 1 strict). Cells that hold no connection are 9.
+#![tactic(auto)]
+
 ghost use Rattle.std.specs.Prelude.{◌≡◌, [], true, false, ◌<◌, ◌^◌};
 ghost use Rattle.pieces.specs.Pieces.{started, told_state, told_connection};
 ghost use Rattle.pieces.specs.Reads.{request_read, reply_read};
@@ -26,7 +28,7 @@ const NO_PROTOCOL: usize = 273;
 const NO_ALGORITHM: usize = 529;
 
 // The connection that cells hold.
-#[derive(Drop)]
+#[derive(Clone, Copy)]
 enum Kept {
     Connection(Connection),
     None,

@@ -1,4 +1,6 @@
 // The calls that hand out a part of a message, an entry of a table and an entry of a list, choose, and tell the length of a key, for a host in C or Rust.
+#![tactic(auto)]
+
 ghost use Rattle.std.specs.Prelude.{◌≡◌, length, get_or};
 ghost use Rattle.wire.specs.Bytes.{part_at};
 ghost use Rattle.nts.specs.Algorithm.{describe};

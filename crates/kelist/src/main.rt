@@ -1,4 +1,6 @@
 // Lists the records of a message on standard input, and what the request reader answers for it.
+#![tactic(auto)]
+
 ghost use Rattle.std.specs.Prelude.{length};
 ghost use Rattle.wire.specs.Over.{Put};
 ghost use Rattle.kelist.specs.Kelist.{kelist_text};

@@ -1,4 +1,6 @@
 // A record laid out, and how it is written: its parts lie in bytes that are lent with it, and it goes to the front of a lent output.
+#![tactic(auto)]
+
 ghost use Rattle.std.specs.Prelude.{◌≡◌, true, ◌+◌, ◌<◌, ◌≤◌, ◌^◌, length};
 ghost use Rattle.wire.specs.Bytes.{PartOf, part_at};
 ghost use Rattle.wire.specs.Over.{Put, Tried};
@@ -9,14 +11,14 @@ ghost use Rattle.layout.specs.Write.{is_inside, is_sound, is_record, is_number, 
 use nts::NtsError;
 
 // Some bytes of a lent message: where they start in it, and how many there are.
-#[derive(Drop)]
+#[derive(Clone, Copy)]
 pub struct Part {
     pub start: usize,
     pub len: usize,
 }
 
 // What a body holds: 01's table by kind, its column "Body".
-#[derive(Drop)]
+#[derive(Clone, Copy)]
 pub enum Shape {
     Skipped,
     Numbers,
@@ -29,7 +31,7 @@ pub enum Shape {
 }
 
 // The bit that is written: its column "Bit written". Of an unknown kind it is the one given with the record.
-#[derive(Drop)]
+#[derive(Clone, Copy)]
 pub enum Bit {
     Set,
     Clear,
@@ -37,7 +39,7 @@ pub enum Bit {
 }
 
 // A row of that table.
-#[derive(Drop)]
+#[derive(Clone, Copy)]
 pub struct Row {
     pub body: Shape,
     pub bit: Bit,
@@ -45,7 +47,7 @@ pub struct Row {
 
 // How a message is read: as document 01 has it, or as RFC 8915 alone allows. The strict profile knows kinds 0 to 7 and asks for the critical bit of kinds 0 to 3, an
 // end record without a body, a server's name in ASCII, and that nothing follows the end record.
-#[derive(Drop)]
+#[derive(Clone, Copy)]
 pub enum Profile {
     Usual,
     Strict,
@@ -104,7 +106,7 @@ fn is_strict(kind: u16, critical: bool, body: &[u8]) -> bool
 
 // A record laid out: its kind and the bit that is written, what its body holds, and that: a number, or two parts of the lent
 // bytes one after the other.
-#[derive(Drop)]
+#[derive(Clone, Copy)]
 pub struct Layout {
     pub kind: u16,
     pub critical: bool,
@@ -115,7 +117,7 @@ pub struct Layout {
 }
 
 // How many bytes a record takes, or why it is not written.
-#[derive(Drop)]
+#[derive(Clone, Copy)]
 pub enum ByteCount {
     Bytes(usize),
     Refused(NtsError),

@@ -1,5 +1,6 @@
 // Prints the class of each byte in sixteen rows of sixteen, as the table has it. Each is held against 01's rule at run time, whose own function counts the byte's
 // leading one bits: a class that the rule does not give its byte is printed as "!!".
+#![tactic(auto)]
 
 const DIGITS: [u8; 16] = *b"0123456789ABCDEF";
 

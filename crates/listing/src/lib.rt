@@ -1,4 +1,6 @@
 // The listing of a message: a line for each record that reads whole, and one for what the request reader answered.
+#![tactic(auto)]
+
 ghost use Rattle.std.specs.Prelude.{◌≡◌, [], ◌∷◌, ◌++◌, ◌+◌, ◌≤◌, length, leb};
 ghost use Rattle.wire.specs.Over.{Put, Tried};
 ghost use Rattle.nts.specs.Refusal.{told_code, told_refusal};
@@ -12,7 +14,7 @@ use record::{ByteCount, Glance, Looked, NtsRecord, Profile};
 use request::{Answer, Request};
 
 // The line of the record at a place, if it has one, and the place of the next record that may have one.
-#[derive(Drop)]
+#[derive(Clone, Copy)]
 enum Line {
     None,
     Last(Glance),

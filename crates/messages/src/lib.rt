@@ -1,5 +1,7 @@
 // The records of which whole messages are made: the type words that are written, and a writer for each form of a record. Each is total: without
 // room, or with a body that is too long, it answers 0 and writes nothing.
+#![tactic(auto)]
+
 ghost use Rattle.std.specs.Prelude.{◌≡◌, [], ◌*◌, ◌≤◌, length};
 ghost use Rattle.wire.specs.Over.{bytes_of, Put, Tried};
 ghost use Rattle.walk.specs.Message.{flat};
@@ -9,7 +11,7 @@ ghost use Rattle.messages.specs.Messages.{record_of, short_record, cell_bytes, i
 use record::NtsRecord;
 
 // What a support reply is to hold.
-#[derive(Drop)]
+#[derive(Clone, Copy)]
 pub struct Asked {
     pub algorithms: bool,
     pub protocols: bool,

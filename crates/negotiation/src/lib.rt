@@ -1,31 +1,33 @@
 // The choice of the protocol and the algorithm that a server answers a client's offer with.
+#![tactic(auto)]
+
 ghost use Rattle.std.specs.Prelude.{◌≡◌};
 ghost use Rattle.negotiation.specs.Negotiation.{numbers_of, is_odd, holds, first_common, with_algorithm, choose, told_choice, choose_protocol, told_protocol};
 ghost use Rattle.negotiation.specs.Code.{told_first};
 
 use nts::{AeadAlgorithm, NextProtocol, NtsError};
 
-#[derive(Drop)]
+#[derive(Clone, Copy)]
 pub struct Chosen {
     pub protocol: NextProtocol,
     pub algorithm: AeadAlgorithm,
 }
 
-#[derive(Drop)]
+#[derive(Clone, Copy)]
 pub enum Choice {
     Chosen(Chosen),
     Refused(NtsError),
 }
 
 // The protocol alone.
-#[derive(Drop)]
+#[derive(Clone, Copy)]
 pub enum ProtocolChoice {
     Chosen(NextProtocol),
     Refused(NtsError),
 }
 
 // The first number that two lists have in common, if any.
-#[derive(Drop)]
+#[derive(Clone, Copy)]
 enum First {
     Number(u16),
     Nothing,

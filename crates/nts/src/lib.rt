@@ -1,10 +1,12 @@
 // The numbers of the NTS key exchange, and what a call can refuse with (the crate's src/nts/mod.rs).
+#![tactic(auto)]
+
 ghost use Rattle.std.specs.Prelude.{◌≡◌};
 ghost use Rattle.nts.specs.Algorithm.{describe, told_description};
 ghost use Rattle.nts.specs.Refusal.{number_of, beside_of, told_code};
 
 // A protocol number as received (RFC 8915, section 4.1.2). It is kept apart from an algorithm's.
-#[derive(Drop)]
+#[derive(Clone, Copy)]
 pub struct NextProtocol(pub u16);
 
 impl NextProtocol {
@@ -14,17 +16,17 @@ impl NextProtocol {
 }
 
 // An algorithm number as received (RFC 8915, section 4.1.5).
-#[derive(Drop)]
+#[derive(Clone, Copy)]
 pub struct AeadAlgorithm(pub u16);
 
 // An algorithm with the length of its key in bytes.
-#[derive(Drop)]
+#[derive(Clone, Copy)]
 pub struct AlgorithmDescription {
     pub id: AeadAlgorithm,
     pub keysize: u16,
 }
 
-#[derive(Drop)]
+#[derive(Clone, Copy)]
 pub enum Description {
     Known(AlgorithmDescription),
     Unknown,
@@ -60,7 +62,7 @@ impl AeadAlgorithm {
 }
 
 // The code of an error record (RFC 8915, section 4.1.3).
-#[derive(Drop)]
+#[derive(Clone, Copy)]
 pub struct ErrorCode(pub u16);
 
 impl ErrorCode {
@@ -72,11 +74,11 @@ impl ErrorCode {
 }
 
 // The code of a warning record (RFC 8915, section 4.1.4, which names none).
-#[derive(Drop)]
+#[derive(Clone, Copy)]
 pub struct WarningCode(pub u16);
 
 // Why a call refuses. The names are the crate's, and those of its I/O errors, where it has one.
-#[derive(Drop)]
+#[derive(Clone, Copy)]
 pub enum NtsError {
     // Bytes are missing.
     UnexpectedEof,
@@ -119,7 +121,7 @@ pub enum NtsError {
 }
 
 // What is returned beside a refusal's number: with 17 a protocol or an algorithm, each as such.
-#[derive(Drop)]
+#[derive(Clone, Copy)]
 pub enum Code {
     None,
     Number(u16),
@@ -128,7 +130,7 @@ pub enum Code {
 }
 
 // A reading refusal: why, and the place of the first byte of the record concerned; of 18 for a byte after the end record, that byte's.
-#[derive(Drop)]
+#[derive(Clone, Copy)]
 pub struct Refusal {
     pub error: NtsError,
     pub place: usize,

@@ -1,5 +1,7 @@
 // The writers of key-exchange replies and requests. Each judges all that it is lent before it writes, and writes each record into the rest of the
 // output, from where the last record ended.
+#![tactic(auto)]
+
 ghost use Rattle.std.specs.Prelude.{◌≡◌, List, [], ◌++◌, map, ℕ, ◌+◌, ◌*◌, ◌≤◌, length};
 ghost use Rattle.wire.specs.Over.{Put, Tried};
 ghost use Rattle.layout.specs.Write.{fitted, told_count, Wrote};

@@ -1,5 +1,7 @@
 // A read that is fed as the line delivers: a message gathers in a lent buffer, and each record is judged when it stands whole, or when the limit or the
 // close cuts it. The connection record is all that is kept between two calls; the answer is the whole-message reader's over the bytes gathered.
+#![tactic(auto)]
+
 ghost use Rattle.std.specs.Prelude.{◌≡◌, ◌++◌, false, cond, ℕ, ◌+◌, ◌≤◌, length, take, drop, ltb};
 ghost use Rattle.wire.specs.Bytes.{byte_at};
 ghost use Rattle.record.specs.Record as records;
@@ -15,7 +17,7 @@ use request::Request;
 use walk::Passed;
 
 // Whether a read has come to an answer.
-#[derive(Drop)]
+#[derive(Clone, Copy)]
 pub enum State {
     Pending,
     Accepted,
@@ -24,7 +26,7 @@ pub enum State {
 
 // What a host keeps for each line, as it got it, with the buffer: the profile, the limit, how many bytes are gathered, where the record that is being gathered begins,
 // which kinds were met before it, a bit each, and the answer once there is one.
-#[derive(Drop)]
+#[derive(Clone, Copy)]
 pub struct Connection {
     pub profile: Profile,
     pub limit: u16,
@@ -51,13 +53,13 @@ impl Connection {
 }
 
 // Which message a line is to bring.
-#[derive(Drop)]
+#[derive(Clone, Copy)]
 pub enum Expected {
     Request,
     Reply,
 }
 
-#[derive(Drop)]
+#[derive(Clone, Copy)]
 pub enum RequestAnswer {
     Waiting,
     Accepted(Request),
@@ -65,13 +67,13 @@ pub enum RequestAnswer {
 }
 
 // A request's connection after a call, and the answer.
-#[derive(Drop)]
+#[derive(Clone, Copy)]
 pub struct FedRequest {
     pub connection: Connection,
     pub answer: RequestAnswer,
 }
 
-#[derive(Drop)]
+#[derive(Clone, Copy)]
 pub enum ReplyAnswer {
     Waiting,
     Accepted(KeyExchangeResponse),
@@ -79,14 +81,14 @@ pub enum ReplyAnswer {
 }
 
 // A reply's connection after a call, and the answer.
-#[derive(Drop)]
+#[derive(Clone, Copy)]
 pub struct FedReply {
     pub connection: Connection,
     pub answer: ReplyAnswer,
 }
 
 // An answer of either read.
-#[derive(Drop)]
+#[derive(Clone, Copy)]
 pub enum Answer {
     Waiting,
     Request(Request),
@@ -95,21 +97,21 @@ pub enum Answer {
 }
 
 // A connection after a call of either read, and the answer.
-#[derive(Drop)]
+#[derive(Clone, Copy)]
 pub struct Handed {
     pub connection: Connection,
     pub answer: Answer,
 }
 
 // What a walk over bytes came to: it waits for the record that begins at a place, or that record decides, and so many bytes reach through it.
-#[derive(Drop)]
+#[derive(Clone, Copy)]
 enum Scanned {
     Waits { at: usize, met: u16 },
     Decides { at: usize, met: u16, through: usize },
 }
 
 // How a read stands without an answer before: it waits, a byte that it needs has no room, a byte follows the end record where none may, or it is decided.
-#[derive(Drop)]
+#[derive(Clone, Copy)]
 enum How {
     Waiting,
     NoRoom,
@@ -118,7 +120,7 @@ enum How {
 }
 
 // What a piece led to: how many bytes are gathered, where the last of their records begins, and which kinds were met before it.
-#[derive(Drop)]
+#[derive(Clone, Copy)]
 struct Came {
     gathered: usize,
     begins: usize,
@@ -127,7 +129,7 @@ struct Came {
 }
 
 // What was gathered before a piece: so many bytes, and where the record that they end with begins.
-#[derive(Drop)]
+#[derive(Clone, Copy)]
 struct Front {
     held: usize,
     begins: usize,

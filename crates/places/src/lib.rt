@@ -1,4 +1,6 @@
 // Where the bodies of a message's records of one kind lie: the lent table of 16-bit cells, two a record, start and length.
+#![tactic(auto)]
+
 ghost use Rattle.std.specs.Prelude.{◌≡◌, ◌*◌, ◌<◌, ◌≤◌, length, drop};
 ghost use Rattle.walk.specs.Judge.{some};
 ghost use Rattle.places.specs.Places.{EntryOf, places_from, Holds, Fills};
@@ -10,7 +12,7 @@ use record::NtsRecord;
 const CELL: usize = 65535;
 
 // All of them were stored, so many; the first so many, and more follow; or none.
-#[derive(Drop)]
+#[derive(Clone, Copy)]
 pub enum Filled {
     Stored(usize),
     First(usize),
@@ -18,7 +20,7 @@ pub enum Filled {
 }
 
 // How many were stored, and the place behind the last record that was passed.
-#[derive(Drop)]
+#[derive(Clone, Copy)]
 struct Held {
     count: usize,
     at: usize,

@@ -1,4 +1,6 @@
 // A reply plan, by value, and the tray of cookies that is lent with it. Either may be made by hand, so every call judges what it gets.
+#![tactic(auto)]
+
 ghost use Rattle.std.specs.Prelude.{◌≡◌, true, false, ◌+◌, ◌*◌, ◌<◌, ◌≤◌, ◌^◌, [], ◌∷◌, length};
 ghost use Rattle.wire.specs.Over.{bytes_of, Put};
 ghost use Rattle.layout.specs.Write.{told_count};
@@ -10,20 +12,20 @@ use nts::{AeadAlgorithm, NextProtocol, NtsError};
 use record::{ByteCount, NtsRecord};
 
 // The port, if one is planned.
-#[derive(Drop)]
+#[derive(Clone, Copy)]
 pub enum Port {
     Number(u16),
     None,
 }
 
 // The length of the server's name, if one is planned.
-#[derive(Drop)]
+#[derive(Clone, Copy)]
 pub enum NameLength {
     Bytes(u16),
     None,
 }
 
-#[derive(Drop)]
+#[derive(Clone, Copy)]
 pub struct Plan {
     pub protocol: NextProtocol,
     pub algorithm: AeadAlgorithm,
@@ -33,20 +35,20 @@ pub struct Plan {
     pub used: usize,
 }
 
-#[derive(Drop)]
+#[derive(Clone, Copy)]
 pub enum Appended {
     Plan(Plan),
     Refused(NtsError),
 }
 
 // How many fields a tray has, and how many bytes their bodies have.
-#[derive(Drop)]
+#[derive(Clone, Copy)]
 pub struct Whole {
     pub fields: usize,
     pub bytes: usize,
 }
 
-#[derive(Drop)]
+#[derive(Clone, Copy)]
 pub enum Tally {
     Whole(Whole),
     Broken,

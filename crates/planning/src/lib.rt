@@ -1,6 +1,8 @@
 // The calls of a reply plan, its length and its reply, for a host in C or Rust, which keeps the plan as eight cells: protocol, algorithm, whether there is a
 // port and its number, whether the server is named and the name's length, keep-alive, and the used length of the tray of cookies. Cells that hold no plan
 // are 9.
+#![tactic(auto)]
+
 ghost use Rattle.std.specs.Prelude.{◌≡◌, true, false, cond, length, eqb};
 ghost use Rattle.plan.specs.Plan as plans;
 ghost use Rattle.plan.specs.declared.Port.TheVariants as ports;
@@ -13,14 +15,14 @@ use nts::{AeadAlgorithm, NextProtocol, NtsError};
 use plan::{Appended, NameLength, Plan, Port};
 
 // The plan that cells hold.
-#[derive(Drop)]
+#[derive(Clone, Copy)]
 enum Held {
     Plan(Plan),
     None,
 }
 
 // What a call may change in a plan.
-#[derive(Drop)]
+#[derive(Clone, Copy)]
 enum Change {
     SetPort(u16),
     ClearPort,

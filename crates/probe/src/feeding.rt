@@ -11,7 +11,7 @@ const PIECES: usize = 13;
 
 // What the calls came to so far: the connection that the last one left, the first answer and the call that gave it, whether nothing else was seen, and where
 // the next piece is.
-#[derive(Drop)]
+#[derive(Clone, Copy)]
 pub struct Fed {
     pub connection: Connection,
     pub answer: Answer,
@@ -22,7 +22,7 @@ pub struct Fed {
 
 // How far the pieces are compared with what a buffer holds: where the next one is, to which place of the buffer those before it reach, and whether they are the
 // same.
-#[derive(Drop)]
+#[derive(Clone, Copy)]
 pub struct Compared {
     pub next: usize,
     pub to: usize,

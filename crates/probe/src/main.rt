@@ -1,4 +1,6 @@
 // Answers a corpus: cases are read from standard input until it ends, and each gets a line.
+#![tactic(auto)]
+
 mod case;
 mod choosing;
 mod feeding;
@@ -17,14 +19,14 @@ ghost use Rattle.std.specs.Prelude.{◌<◌};
 
 use record::Profile;
 
-#[derive(Drop)]
+#[derive(Clone, Copy)]
 struct Head {
     on: bool,
     op: u8,
     size: usize,
 }
 
-#[derive(Drop)]
+#[derive(Clone, Copy)]
 struct Went {
     on: bool,
     used: usize,

@@ -4,7 +4,7 @@ use nts::{AeadAlgorithm, NextProtocol};
 use plan::{Appended, NameLength, Plan, Port};
 
 // What appending one cookie gave: the plan afterwards, the refusal's number or 0, and whether no byte changed that must not.
-#[derive(Drop)]
+#[derive(Clone, Copy)]
 pub struct Step {
     pub plan: Plan,
     pub refused: u8,
@@ -12,7 +12,7 @@ pub struct Step {
 }
 
 // The plan that steps have made so far, how many cookies were appended, and where the next one is.
-#[derive(Drop)]
+#[derive(Clone, Copy)]
 pub struct Made {
     pub plan: Plan,
     pub refused: u8,

@@ -4,7 +4,7 @@ use super::{case, findings, lent, replies, requests, text};
 use record::Profile;
 
 // Which reader a message is for.
-#[derive(Drop)]
+#[derive(Clone, Copy)]
 pub enum Sort {
     Request,
     Reply,

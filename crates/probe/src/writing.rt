@@ -6,7 +6,7 @@ use nts::{ErrorCode, WarningCode};
 use record::{ByteCount, NtsRecord, Part};
 
 // The record that a case gives; its parts lie in the case.
-#[derive(Drop)]
+#[derive(Clone, Copy)]
 pub enum Given {
     Item(NtsRecord),
     Bad,

@@ -1,4 +1,6 @@
 // Makes one key-exchange reply by a plan's calls, writes it, reads it back as one who offered what it names, and prints what it read.
+#![tactic(auto)]
+
 use nts::{AeadAlgorithm, NextProtocol, NtsError};
 use plan::{Appended, Plan};
 use record::{ByteCount, Profile};

@@ -1,5 +1,7 @@
 // The calls that read a request and a reply, in either profile, and one record, for a host in C or Rust; the bit that document 01 names for a kind; and the test for
 // UTF-8.
+#![tactic(auto)]
+
 ghost use Rattle.std.specs.Prelude.{◌≡◌, [], ◌∷◌, ◌<◌};
 ghost use Rattle.utf8.specs.Utf8.{well_formed};
 ghost use Rattle.nts.specs.Refusal.{told_refusal};

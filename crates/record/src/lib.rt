@@ -1,4 +1,6 @@
 // One record of the NTS key exchange: what it can be, how it is read and how it is written (the crate's src/nts/record.rs).
+#![tactic(auto)]
+
 mod write;
 
 ghost use Rattle.std.specs.Prelude.{◌≡◌, ◌+◌, ◌/◌, ◌<◌, ◌≤◌, ◌^◌, length, take, drop};
@@ -16,7 +18,7 @@ use nts::{
 };
 
 // A record, as the crate's NtsRecord; bodies, names and keys are parts of the message that it was read from.
-#[derive(Drop)]
+#[derive(Clone, Copy)]
 pub enum NtsRecord {
     EndOfMessage,
     NextProtocol(Part),
@@ -43,41 +45,41 @@ pub enum NtsRecord {
 }
 
 // A place in a message, from which the next record is read.
-#[derive(Drop)]
+#[derive(Clone, Copy)]
 pub struct Cursor {
     pub at: usize,
 }
 
 // A record that was read, with its critical bit as received, of every kind, and the place after it.
-#[derive(Drop)]
+#[derive(Clone, Copy)]
 pub struct Reading {
     pub item: NtsRecord,
     pub critical: bool,
     pub next: Cursor,
 }
 
-#[derive(Drop)]
+#[derive(Clone, Copy)]
 pub enum Parsed {
     Read(Reading),
     Refused(Refusal),
 }
 
 // What a walk asks of a record that reads: its kind, its critical bit, and its body's size.
-#[derive(Drop)]
+#[derive(Clone, Copy)]
 pub struct Glance {
     pub kind: u16,
     pub critical: bool,
     pub size: u16,
 }
 
-#[derive(Drop)]
+#[derive(Clone, Copy)]
 pub enum Looked {
     Whole(Glance),
     Refused(Refusal),
 }
 
 // What is wrong with a body.
-#[derive(Drop)]
+#[derive(Clone, Copy)]
 enum Fault {
     None,
     Short,
@@ -85,25 +87,25 @@ enum Fault {
 }
 
 // What stands at an index of a list.
-#[derive(Drop)]
+#[derive(Clone, Copy)]
 enum NumberAt {
     Number(u16),
     Nothing,
 }
 
-#[derive(Drop)]
+#[derive(Clone, Copy)]
 pub enum ProtocolAt {
     Protocol(NextProtocol),
     Nothing,
 }
 
-#[derive(Drop)]
+#[derive(Clone, Copy)]
 pub enum AlgorithmAt {
     Algorithm(AeadAlgorithm),
     Nothing,
 }
 
-#[derive(Drop)]
+#[derive(Clone, Copy)]
 pub enum DescriptionAt {
     Description(AlgorithmDescription),
     Nothing,

@@ -1,5 +1,7 @@
 // Reading a reply to a key-exchange request (after the crate's KeyExchangeResponse::parse, by the rules of documents 01 and 02): its table for the walk,
 // the decision over what the walk found and what was offered, and its answers.
+#![tactic(auto)]
+
 ghost use Rattle.std.specs.Prelude.{◌≡◌, length};
 ghost use Rattle.walk.specs.Judge.{body_in, placed};
 ghost use Rattle.walk.specs.Found.{told_in};
@@ -14,21 +16,21 @@ use record::{NtsRecord, Part, Profile};
 use walk::{ENDING, NOTED, ONCE, REFUSED, SINGLE, Seen, Stop, TOLD, Walked};
 
 // The server's name, where one was sent: a part of the message.
-#[derive(Drop)]
+#[derive(Clone, Copy)]
 pub enum Server {
     Sent(Part),
     NotSent,
 }
 
 // The port, where one was sent.
-#[derive(Drop)]
+#[derive(Clone, Copy)]
 pub enum Port {
     Sent(u16),
     NotSent,
 }
 
 // A reply that was accepted, with the crate's fields; of the cookies, how many there are.
-#[derive(Drop)]
+#[derive(Clone, Copy)]
 pub struct KeyExchangeResponse {
     pub protocol: NextProtocol,
     pub algorithm: AeadAlgorithm,
@@ -38,21 +40,21 @@ pub struct KeyExchangeResponse {
     pub cookies: usize,
 }
 
-#[derive(Drop)]
+#[derive(Clone, Copy)]
 pub enum Answer {
     Accepted(KeyExchangeResponse),
     Refused(Refusal),
 }
 
 // An answer, and the place at which the walk stopped: that of the end record, or of what was refused.
-#[derive(Drop)]
+#[derive(Clone, Copy)]
 pub struct Judged {
     pub answer: Answer,
     pub place: usize,
 }
 
 // The numbers that a reply names, whatever was offered.
-#[derive(Drop)]
+#[derive(Clone, Copy)]
 pub struct Named {
     pub protocol: NextProtocol,
     pub algorithm: AeadAlgorithm,

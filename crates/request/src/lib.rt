@@ -1,5 +1,7 @@
 // Reading a request (the crate's Request::parse), which is two things: a walk by the request's table, which hands back a finding, and the decision from
 // that; and the answers.
+#![tactic(auto)]
+
 ghost use Rattle.std.specs.Prelude.{◌≡◌, List, ℕ, length};
 ghost use Rattle.walk.specs.Judge.{body_in, placed};
 ghost use Rattle.walk.specs.Found.{entry_in, told_in, first_in};
@@ -14,7 +16,7 @@ use record::{NtsRecord, Part, Profile};
 use walk::{ENDING, Finding, NOTED, ONCE, PASSED, REFUSED, Seen, Stop, Walked};
 
 // A request that was accepted, with the crate's fields; bodies, names and keys are parts of the message.
-#[derive(Drop)]
+#[derive(Clone, Copy)]
 pub enum Request {
     KeyExchange {
         protocols: Part,
@@ -37,7 +39,7 @@ pub enum Request {
     },
 }
 
-#[derive(Drop)]
+#[derive(Clone, Copy)]
 pub enum Answer {
     Accepted(Request),
     Refused(Refusal),
@@ -47,7 +49,7 @@ pub enum Answer {
 const NUMBER: u16 = 2;
 
 // An answer, and the finding that it was decided from.
-#[derive(Drop)]
+#[derive(Clone, Copy)]
 pub struct Judged {
     pub answer: Answer,
     pub finding: Finding,

@@ -1,4 +1,6 @@
 // The call that lists a message as text, for a host in C or Rust.
+#![tactic(auto)]
+
 ghost use Rattle.std.specs.Prelude.{length};
 ghost use Rattle.layout.specs.Write.{bytes, fitted};
 ghost use Rattle.listing.specs.Listing.{listing};

@@ -1,4 +1,6 @@
 // A checker of UTF-8, after RFC 3629, section 4. There is no limit on its input.
+#![tactic(auto)]
+
 ghost use Rattle.std.specs.Prelude.{◌≡◌, ◌+◌, ◌<◌, ◌≤◌, length, get_or, drop};
 ghost use Rattle.utf8.specs.Utf8.{tail, well_formed};
 ghost use Rattle.utf8.specs.Ascii.{is_ascii};

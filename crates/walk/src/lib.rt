@@ -1,5 +1,7 @@
 // The walk over a message, one loop for every reader: a reader is a table that says by kind what is done with a record, and what the walk hands back
 // is a finding. Definitions that are the same for every reader stand in specs/, what holds for every reader in proofs/.
+#![tactic(auto)]
+
 ghost use Rattle.std.specs.Prelude.{◌≡◌, ◌+◌, ◌<◌, ◌≤◌, ◌^◌, length, take, drop, cond, ◌&&◌, eqb};
 ghost use Rattle.layout.specs.Table.{shape_of};
 ghost use Rattle.wire.specs.Bytes.{number_at};
@@ -41,7 +43,7 @@ const UNKNOWN: usize = 11;
 const ENTRY: u16 = 2;
 
 // The records of one kind that were met: how many, and where the first one's body lies.
-#[derive(Drop)]
+#[derive(Clone, Copy)]
 pub struct Seen {
     pub count: u16,
     pub start: u16,
@@ -60,14 +62,14 @@ impl Seen {
     }
 }
 
-#[derive(Drop)]
+#[derive(Clone, Copy)]
 pub enum Stop {
     End,
     Refused(NtsError),
 }
 
 // How a walk went: under which limit, the place of the record that stopped it, and why.
-#[derive(Drop)]
+#[derive(Clone, Copy)]
 pub struct Walked {
     pub limit: u16,
     pub place: usize,
@@ -76,7 +78,7 @@ pub struct Walked {
 
 // What a walk hands back: the limit under which it went; what it found, three cells a kind: how many records were met, and start and length of the
 // first one's body; the place of the record that stopped it, and why.
-#[derive(Drop)]
+#[derive(Clone, Copy)]
 pub struct Finding {
     pub limit: u16,
     pub cells: [u16; 45],
@@ -100,14 +102,14 @@ impl Finding {
 }
 
 // Whether a walk goes on past a record: with its kind met as well, a bit a kind; or it stops with it.
-#[derive(Drop)]
+#[derive(Clone, Copy)]
 pub enum Passed {
     On(u16),
     Stopped,
 }
 
 // Where a walk has stopped, and why; and the place after the end record, where that stopped it.
-#[derive(Drop)]
+#[derive(Clone, Copy)]
 struct Halted {
     place: usize,
     next: usize,
@@ -115,7 +117,7 @@ struct Halted {
 }
 
 // What one record does to a walk.
-#[derive(Drop)]
+#[derive(Clone, Copy)]
 enum Verdict {
     On,
     End,
@@ -123,7 +125,7 @@ enum Verdict {
 }
 
 // What a walk sees of a record: where its kind stands, its critical bit and its body's size, of one that the profile allows or of one that it does not; or, of one that does not read, what that does to the walk.
-#[derive(Drop)]
+#[derive(Clone, Copy)]
 enum View {
     Whole {
         slot: usize,
@@ -139,7 +141,7 @@ enum View {
 }
 
 // One step: the verdict, and where it lets the walk go on the place after the record.
-#[derive(Drop)]
+#[derive(Clone, Copy)]
 struct Stepped {
     verdict: Verdict,
     next: usize,

@@ -1,4 +1,6 @@
 // Bytes at a place of a lent slice, and bytes at the front of a lent output. Nothing here knows of NTS.
+#![tactic(auto)]
+
 ghost use Rattle.std.specs.Prelude.{◌≡◌, ◌≤◌, length};
 ghost use Rattle.wire.specs.Bytes.{byte_at, number_at, PartOf};
 ghost use Rattle.wire.specs.Over.{over, bytes_of, Tried};

@@ -1,5 +1,7 @@
 // The writers of the other whole messages and of one record, their lengths, and a request's tray of denied names, for a host in C or Rust. Each answers a length into
 // one cell; a refusal changes neither it nor the output nor the tray.
+#![tactic(auto)]
+
 ghost use Rattle.std.specs.Prelude.{◌≡◌, length};
 ghost use Rattle.layout.specs.Write.{bytes, fitted};
 ghost use Rattle.plan.specs.Tray.{names_in};
@@ -13,7 +15,7 @@ use nts::{ErrorCode, NextProtocol, NtsError, WarningCode};
 use record::{NtsRecord, Part};
 
 // The record that cells hold.
-#[derive(Drop)]
+#[derive(Clone, Copy)]
 enum Given {
     Item(NtsRecord),
     None,
