@@ -1,0 +1,6 @@
+-- `cells::mark` meets its contract: it adds up what the definition adds up, of eight bits each.
+use borrow.Author.Rules.{rules}
+use Rattle.cells.proofs.mark.Goals as goal
+
+pub returns : goal.returns
+returns c = rw (c.number.ensures, c.sort.ensures, c.code.ensures)

@@ -1,0 +1,20 @@
+-- `declining::write_error` meets its contract: the end record is put behind the error.
+use borrow.Author.Rules.{rules}
+use mathlib.Core.Path.{refl}
+use native.Mathlib.Omega.{arith}
+use Rattle.wire.proofs.Over.{put_as, try_then}
+use mathlib.Core.List.{[]}
+use Rattle.wire.specs.Over.{bytes_of}
+use Rattle.messages.specs.Messages.{record_with, end_record}
+use Rattle.layout.specs.Table.{row_of, bit_of}
+use Rattle.layout.specs.Write.{word_of}
+use Rattle.messages.proofs.Putting.{no_room, room}
+use Rattle.declining.proofs.Laid.{laid_one}
+use Rattle.declining.proofs.write_error.Goals as goal
+
+pub returns-then-out : goal.returns-then-out
+returns-then-out c = no_room _ _ _ c.if-out.true
+
+pub returns : goal.returns
+unfolding word_of bit_of row_of
+returns c = room c.if-out.false (put_as (try_then (c.put_one-end.ensures.room (omega arith)) c.put_empty.ensures c.if-out.false) refl (laid_one (record_with 2 (bytes_of c.args.code.0)) end_record))

@@ -1,0 +1,29 @@
+-- `pieces::feed_request` meets its contract: by whether the connection counts too much, and then by its state.
+use mathlib.Core.Path.{sym, ap, ◌∙◌}
+use borrow.Author.Rules.{rules}
+use Rattle.pieces.specs.Pieces.{broken, told_state}
+use Rattle.pieces.specs.Code.{counts}
+use Rattle.pieces.specs.Reads.{request_read}
+use Rattle.pieces.proofs.Inside.{counted_inside}
+use Rattle.pieces.proofs.Feeding.{hands_broken, hands_refused, hands_accepted}
+use Rattle.pieces.proofs.feed_request.Goals as goal
+
+pub returns-then-is_broken : goal.returns-then-is_broken
+unfolding counts broken
+returns-then-is_broken c = hands_broken request_read _ _ _ _ _ (sym c.is_broken.ensures ∙ c.if-is_broken.true) _ c.no_connection.ensures
+
+pub pending_request-requires : goal.pending_request-requires
+unfolding counts broken
+pending_request-requires c = (sym c.is_broken.ensures ∙ c.if-is_broken.false, c.in-Pending.is)
+
+pub request_again-requires : goal.request_again-requires
+unfolding counts broken
+request_again-requires c = counted_inside c.args.connection c.args.buffer.now (sym c.is_broken.ensures ∙ c.if-is_broken.false)
+
+pub returns-in-Accepted : goal.returns-in-Accepted
+unfolding counts broken
+returns-in-Accepted c = hands_accepted request_read _ _ _ _ _ (sym c.is_broken.ensures ∙ c.if-is_broken.false) (ap told_state c.enum_told-in-Accepted-1.given.1) _ c.request_again.ensures
+
+pub returns-in-Refused : goal.returns-in-Refused
+unfolding counts broken
+returns-in-Refused c = hands_refused request_read _ _ _ _ _ (sym c.is_broken.ensures ∙ c.if-is_broken.false) _ (ap told_state c.in-Refused.is)

@@ -1,0 +1,7 @@
+-- `writing::ntske_write_no_protocol` meets its contract: what the library's call answered and left is given.
+use borrow.Author.Rules.{rules}
+use Rattle.cells.proofs.Lent.{wrote}
+use Rattle.writing.proofs.ntske_write_no_protocol.Goals as goal
+
+pub returns : goal.returns
+returns c = wrote c.write_no_protocol-answer.ensures c.give_count.ensures
