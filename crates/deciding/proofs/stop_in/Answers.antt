@@ -17,6 +17,6 @@ returns-in-3 c = rw c.in-3.is
 
 pub returns-in_default : goal.returns-in_default
 returns-in_default c =
-    let k = c.in_default.rest in
+    let k = c.in_default.in_default-own.rest in
     let four : c.args.reason ≡ 4 = omega (arith, k.1, k.0.1, k.0.0.1, k.0.0.0.1, c.requires) in
     rw four

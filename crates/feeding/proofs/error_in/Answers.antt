@@ -80,7 +80,7 @@ returns-in-273 c = rw c.in-273.is
 pub returns-in_default : goal.returns-in_default
 unfolding error_in has_beside
 returns-in_default c =
-    let k = c.in_default.rest in
+    let k = c.in_default.in_default-own.rest in
     let n = c.args.number in
     let last : n ≡ no_algorithm =
     of_each (λ m. m ≡ n → n ≡ no_algorithm)

@@ -8,7 +8,7 @@ use Rattle.feeding.proofs.state_in.Goals as goal
 
 pub error_in-requires : goal.error_in-requires
 error_in-requires c =
-    let k = c.in_default.rest in
+    let k = c.in_default.in_default-own.rest in
     (standing_refusing _ _ _ _ k.0.1 k.1 (standing_sound _ _ _ _ c.requires)).mark
 
 pub returns-in-0 : goal.returns-in-0
@@ -19,5 +19,5 @@ returns-in-1 c = rw c.in-1.is
 
 pub returns-in_default : goal.returns-in_default
 returns-in_default c =
-    let k = c.in_default.rest in
+    let k = c.in_default.in_default-own.rest in
     rw c.error_in.ensures (standing_refusal _ _ _ _ (standing_refusing _ _ _ _ k.0.1 k.1 (standing_sound _ _ _ _ c.requires)))

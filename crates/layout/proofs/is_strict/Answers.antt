@@ -29,4 +29,4 @@ unfolding asks_of allows
 returns-in-6 c = rw c.in-6.is c.is_ascii.ensures
 
 pub returns-in_default : goal.returns-in_default
-returns-in_default c = sym (strict_allows _ _ _ c.in_default.rest.0.0.0.0.1 c.in_default.rest.0.0.0.1 c.in_default.rest.0.0.1 c.in_default.rest.0.1 c.in_default.rest.1)
+returns-in_default c = sym (strict_allows _ _ _ c.in_default.in_default-own.rest.0.0.0.0.1 c.in_default.in_default-own.rest.0.0.0.1 c.in_default.in_default-own.rest.0.0.1 c.in_default.in_default-own.rest.0.1 c.in_default.in_default-own.rest.1)

@@ -63,4 +63,4 @@ returns-in-14 c = rw c.in-14.is
 
 pub returns-in_default : goal.returns-in_default
 unfolding seen_of value_of
-returns-in_default c = rw (unknown_shape _ (unnamed _ c.in_default.rest))
+returns-in_default c = rw (unknown_shape _ (unnamed _ c.in_default.in_default-own.rest))

@@ -62,4 +62,4 @@ unfolding row_of
 returns-in-14 c = rw c.in-14.is c.row-in-14.ensures
 
 pub returns-in_default : goal.returns-in_default
-returns-in_default c = c.row-in_default.ensures ∙ sym (unknown_row _ (unnamed _ c.in_default.rest))
+returns-in_default c = c.row-in_default.ensures ∙ sym (unknown_row _ (unnamed _ c.in_default.in_default-own.rest))

@@ -33,5 +33,5 @@ returns-in-8 c = rw c.in-8.is (same_shift _ _ (class_second F4) refl c.args.b (s
 pub returns-in_default : goal.returns-in_default
 unfolding class_second tail
 returns-in_default c =
-    let k = c.in_default.rest in
+    let k = c.in_default.in_default-own.rest in
     c.is_tail-in_default.ensures ∙ simp (ne_eqb _ _ k.1, ne_eqb _ _ k.0.1, ne_eqb _ _ k.0.0.1, ne_eqb _ _ k.0.0.0.1)

@@ -39,5 +39,5 @@ returns-in-8 c = rw c.in-8.is refl
 pub returns-in_default : goal.returns-in_default
 unfolding class_size
 returns-in_default c =
-    let k = c.in_default.rest in
+    let k = c.in_default.in_default-own.rest in
     simp (ne_eqb _ _ k.1, ne_eqb _ _ k.0.1, ne_eqb _ _ k.0.0.1, ne_eqb _ _ k.0.0.0.1, ne_eqb _ _ k.0.0.0.0.1, ne_eqb _ _ k.0.0.0.0.0.1, ne_eqb _ _ k.0.0.0.0.0.0.1, ne_eqb _ _ k.0.0.0.0.0.0.0.1)

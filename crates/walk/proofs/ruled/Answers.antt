@@ -34,4 +34,4 @@ returns-in-5 c = rw (c.in-5.is, c.told-error.ensures, c.number_at.ensures)
 
 pub returns-in_default : goal.returns-in_default
 unfolding ruled_of
-returns-in_default c = let k = c.in_default.rest in simp (ne_eqb _ _ k.1, ne_eqb _ _ k.0.1, ne_eqb _ _ k.0.0.1, ne_eqb _ _ k.0.0.0.1, ne_eqb _ _ k.0.0.0.0.1, ne_eqb _ _ k.0.0.0.0.0.1)
+returns-in_default c = let k = c.in_default.in_default-own.rest in simp (ne_eqb _ _ k.1, ne_eqb _ _ k.0.1, ne_eqb _ _ k.0.0.1, ne_eqb _ _ k.0.0.0.1, ne_eqb _ _ k.0.0.0.0.1, ne_eqb _ _ k.0.0.0.0.0.1)

@@ -8,11 +8,12 @@ use borrow.Author.Rules.{rules}
 use borrow.Author.Tests.{ltb-true, ltb-false}
 use Rattle.wire.proofs.Bytes.{part_none, part_some}
 use Rattle.wire.proofs.part.Goals as goal
+use Rattle.wire.proofs.part.Goals.{then-s-start-via-then-s-start, then-s-start-via-else-s-start+then-s-start-2}
 
 pub returns-then-s-start : goal.returns-then-s-start
 returns-then-s-start c =
     let a = c.args in
-    let h : length a.s.now < a.start + a.len = ⊎_elim (λ t. omega arith) (λ t. omega (arith, ltb-true)) c.then-s-start.branch in
+    let h : length a.s.now < a.start + a.len = elim c.then-s-start.branch [ then-s-start-via-then-s-start w ↦ omega arith | then-s-start-via-else-s-start+then-s-start-2 w ↦ omega (arith, w.if-s-start-2.true) ] in
     let p = part_none a.s.now a.start a.len h in
     record { holds = p.0; block = refl; offset = omega arith }
 
