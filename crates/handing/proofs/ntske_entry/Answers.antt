@@ -7,7 +7,7 @@ use borrow.Author.Rules.{rules}
 use Rattle.handing.proofs.ntske_entry.Goals as goal
 
 pub returns-then-index-table : goal.returns-then-index-table
-returns-then-index-table c = record { says = refl; left = rw (c.table_at.ensures, c.table_at-then-index-table.ensures) at c.Handed-out.ensures }
+returns-then-index-table c = record { says = refl; left = rw (c.table_at.ensures, c.table_at-then-index-table.ensures) at c.handed_out.ensures }
 
 pub returns : goal.returns
 returns c =
