@@ -10,7 +10,7 @@ use borrow.Author.Rules.{rules}
 use Rattle.pieces.proofs.scan.Given as goal
 
 abbrev pub invariant-loop-profile : goal.invariant-loop-profile
-invariant-loop-profile l = Scanning (reader_of (record { l.profile = l.profile; entries = l.rules })) l.met l.bytes l.at l.seen
+invariant-loop-profile l = Scanning (reader_of (record { profile = l.profile; entries = l.rules })) l.met l.bytes l.at l.seen
 
 abbrev pub decreases-loop-profile : goal.decreases-loop-profile
 decreases-loop-profile l = length l.bytes - l.at

@@ -10,7 +10,7 @@ use borrow.Author.Rules.{rules}
 use Rattle.walk.proofs.walk_cut.Given as goal
 
 abbrev pub invariant-loop-at : goal.invariant-loop-at
-invariant-loop-at l = Going (record { l.profile = l.profile; entries = l.rules }) l.cut l.at l.cells
+invariant-loop-at l = Going (record { profile = l.profile; entries = l.rules }) l.cut l.at l.cells
 
 abbrev pub decreases-loop-at : goal.decreases-loop-at
 decreases-loop-at l = length l.cut - l.at
