@@ -5,10 +5,10 @@ use Rattle.listing.proofs.Digits.{digit_first, digit_room, digit_next}
 use Rattle.listing.proofs.+put_digits.Goals as goal
 
 pub returns-then-n-lt10 : goal.returns-then-n-lt10
-returns-then-n-lt10 c = digit_first _ _ c.if-n-lt10.true c.requires
+returns-then-n-lt10 t c = digit_first _ _ c.if-n-lt10.true c.requires
 
 pub bounds-out-i : goal.bounds-out-i
-bounds-out-i c = digit_room _ c.if-n-lt10.false (omega arith) c.requires c.put_digits-i.ensures
+bounds-out-i t c = digit_room _ c.if-n-lt10.false (omega arith) c.requires c.put_digits-i.ensures
 
 pub returns : goal.returns
-returns c = digit_next _ _ _ _ c.if-n-lt10.false (omega arith) c.requires c.put_digits-i.ensures
+returns t c = digit_next _ _ _ _ c.if-n-lt10.false (omega arith) c.requires c.put_digits-i.ensures
