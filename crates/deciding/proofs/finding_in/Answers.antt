@@ -19,4 +19,4 @@ pub returns : goal.returns
 returns c =
     let found = copying_end c.loop-i.invariant c.loop-i-test.false in
     let way = c.stop_in-stop.ensures _ in
-    λ i. record { limit = cell c.args.t1 0; cells = found i; way = way i }
+    λ i. record { limit = cell c.args.cells 0; cells = found i; way = way i }
