@@ -1,7 +1,6 @@
 -- `kelist::main` is safe and ends: the text that was made lies inside the output.
 use Prim.Native.Nat.{ℕ}
 use native.Mathlib.Omega.{arith}
-use borrow.Author.Rules.{rules}
 use lib.ListN.{length-replicate}
 use Rattle.kelist.proofs.Made.{text_inside}
 use Rattle.kelist.proofs.main.Goals as goal

@@ -1,6 +1,5 @@
 -- `kelist::make_text` meets its contract: the output has room for every text, so the case in which `list` refuses does not occur.
 use native.Mathlib.Omega.{arith}
-use borrow.Author.Rules.{rules}
 use Rattle.kelist.proofs.Made.{text_made}
 use Rattle.kelist.proofs.make_text.Goals as goal
 
