@@ -1,7 +1,7 @@
 -- A host's call that feeds a read, from what the call by value gave: the connection that the cells hold is handed on, and put again as cells.
 -- Assumes nothing.
 use mathlib.Core.Path.{◌≡◌, sym, ap, subst, ◌∙◌}
-use mathlib.Core.Bool.{true, false}
+use mathlib.Core.Bool.{true}
 use mathlib.Core.List.{List}
 use Prim.Native.Nat.{ℕ, ◌<◌, ◌^◌}
 use Rattle.nts.specs.Refusal.{nothing, Refused}

@@ -1,7 +1,7 @@
 -- Why a call that feeds a read refuses, for every sort of read: the connection counts too many bytes, the buffer is full, a byte follows the end record where none may, it was
 -- refused before, or the whole-message reader refuses; and so that its place has thirty-two bits.
 -- Assumes nothing.
-use mathlib.Core.Path.{◌≡◌, refl, sym, ap, ◌∙◌}
+use mathlib.Core.Path.{◌≡◌, refl, ap, ◌∙◌}
 use mathlib.Core.Bool.{Bool, true, false, cond, ◌&&◌, ◌||◌}
 use mathlib.Core.List.{List}
 use Prim.Native.Nat.{ℕ, ◌≤◌, ◌<◌, ◌^◌}
@@ -18,11 +18,11 @@ use Rattle.walk.proofs.Within.{refused_within}
 use Rattle.request.specs.Request as requests
 use Rattle.reply.specs.Reply as replies
 use Rattle.cells.specs.Cells.{cell}
-use Rattle.pieces.specs.Pieces.{Standing, pending, accepted, refused, Line, Brought, joined, inside, fitting, Going, waits, decides, going, begins_at, full, otherwise, How, waiting, no_room, followed, decided, Came, came_to, gathers, how_after, is_decided, after_end, comes, Read, Fed, none, answers, refused_at, answer_after, first_answer, again, by_standing, broken, answer_of, Says, nothing_yet, says, says_of}
+use Rattle.pieces.specs.Pieces.{Standing, pending, accepted, refused, Line, Brought, joined, inside, fitting, Going, waits, decides, going, begins_at, full, otherwise, How, waiting, no_room, followed, decided, Came, came_to, gathers, how_after, is_decided, after_end, comes, Read, Fed, none, answers, refused_at, answer_after, first_answer, again, by_standing, broken, answer_of, says, says_of}
 use Rattle.pieces.specs.Reads.{request_read, reply_read}
 use Rattle.pieces.proofs.Inside.{comes_gathered}
 use Rattle.feeding.specs.Fed.{is_connection, line_in}
-use Rattle.feeding.proofs.Holding.{SoundLine, line_sound, standing_held}
+use Rattle.feeding.proofs.Holding.{line_sound, standing_held}
 
 pub data Cause (X : Read) (c : Line) (r : Refused) : Type 0 where
   broke : record { number = 9; beside = nothing; place = 0 } ≡ r → Cause X c r

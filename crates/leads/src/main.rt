@@ -2,6 +2,8 @@
 // leading one bits: a class that the rule does not give its byte is printed as "!!".
 #![tactic(auto)]
 
+use std::io;
+
 const DIGITS: [u8; 16] = *b"0123456789ABCDEF";
 
 // The class that the rule gives a byte: by its count, and where the byte after it is narrowed, the byte's own. The number of any other class is how many bytes its
@@ -23,51 +25,52 @@ fn by_rule(a: u8) -> usize {
     }
 }
 
-fn print_class(class: u8) {
+fn print_class(rt: &impl Print, class: u8) -> io::Result<()> {
     match class {
-        utf8::NO => print(b" NO"),
-        utf8::AS => print(b" AS"),
-        utf8::L2 => print(b" L2"),
-        utf8::L3 => print(b" L3"),
-        utf8::L4 => print(b" L4"),
-        utf8::E0 => print(b" E0"),
-        utf8::ED => print(b" ED"),
-        utf8::F0 => print(b" F0"),
-        utf8::F4 => print(b" F4"),
-        _ => print(b" ??"),
+        utf8::NO => print(rt, b" NO"),
+        utf8::AS => print(rt, b" AS"),
+        utf8::L2 => print(rt, b" L2"),
+        utf8::L3 => print(rt, b" L3"),
+        utf8::L4 => print(rt, b" L4"),
+        utf8::E0 => print(rt, b" E0"),
+        utf8::ED => print(rt, b" ED"),
+        utf8::F0 => print(rt, b" F0"),
+        utf8::F4 => print(rt, b" F4"),
+        _ => print(rt, b" ??"),
     }
 }
 
-fn print(text: &[u8]) {
-    io::write_all(1, text);
+fn print(rt: &impl Print, text: &[u8]) -> io::Result<()> {
+    rt.write_all(text)
 }
 
-fn print_digit(n: u8) {
+fn print_digit(rt: &impl Print, n: u8) -> io::Result<()> {
     let digit = [DIGITS[(n % 16) as usize]];
-    print(&digit);
+    print(rt, &digit)
 }
 
-fn print_entry(a: u8) {
+fn print_entry(rt: &impl Print, a: u8) -> io::Result<()> {
     let class = utf8::class_of(a);
     if class as usize == by_rule(a) {
-        print_class(class);
+        print_class(rt, class)
     } else {
-        print(b" !!");
+        print(rt, b" !!")
     }
 }
 
 // A row: its first byte, and the classes of the sixteen bytes from there on.
-fn print_row(row: u8) {
-    print_digit(row);
-    print(b"0");
+fn print_row(rt: &impl Print, row: u8) -> io::Result<()> {
+    print_digit(rt, row)?;
+    print(rt, b"0")?;
     for column in 0u8..16 {
-        print_entry(row % 16 * 16 + column);
+        print_entry(rt, row % 16 * 16 + column)?;
     }
-    print(b"\n");
+    print(rt, b"\n")
 }
 
-fn main() {
+fn main(rt: HostRuntime) -> io::Result<()> {
     for row in 0u8..16 {
-        print_row(row);
+        print_row(&rt, row)?;
     }
+    Ok(())
 }

@@ -15,9 +15,11 @@ mod text;
 mod whole;
 mod writing;
 
-ghost use Rattle.std.specs.Prelude.{◌<◌};
+ghost use Rattle.std.specs.Prelude.{◌<◌, ◌≤◌, length};
 
 use record::Profile;
+use std::io;
+use std::io::{ErrorKind, Read};
 
 #[derive(Clone, Copy)]
 struct Head {
@@ -82,21 +84,43 @@ fn read(op: u8, case: &[u8], out: &mut [u8], at: usize) -> usize {
 }
 
 // What is to print is written once there is as much of it as `least`.
-fn flush(out: &[u8], used: usize, least: usize) -> usize {
+fn flush(rt: &impl Print, out: &[u8], used: usize, least: usize) -> io::Result<usize> {
     if used < least {
-        return used;
+        return Ok(used);
     }
     if used <= out.len() {
-        io::write_all(1, &out[0..used]);
+        rt.write_all(&out[0..used])?;
     }
-    0
+    Ok(0)
+}
+
+// Reads until the buffer is full, the input ends or a read fails: how many bytes it put at the front of the buffer. A read that a signal interrupts is made again.
+fn read_full(input: &mut impl Read, buf: &mut [u8]) -> usize
+    ensures { result ≤ length buf.new }
+{
+    let mut done = 0;
+    for _ in 0..u64::MAX {
+        if done >= buf.len() {
+            break;
+        }
+        match input.read(&mut buf[done..]) {
+            Ok(0) => break,
+            Ok(n) => done += n,
+            Err(error) => {
+                if error.kind() != ErrorKind::Interrupted {
+                    break;
+                }
+            }
+        }
+    }
+    done
 }
 
 // Reads past a payload that no case may have; false where the input ends inside it.
-fn skip(buf: &mut [u8], size: usize) -> bool {
+fn skip(input: &mut impl Read, buf: &mut [u8], size: usize) -> bool {
     let mut left = size;
     while buf.len() < left {
-        let got = io::read_full(0, buf);
+        let got = read_full(input, buf);
         if got < buf.len() {
             return false;
         }
@@ -105,13 +129,13 @@ fn skip(buf: &mut [u8], size: usize) -> bool {
         }
         left -= got;
     }
-    io::read_full(0, &mut buf[0..left]) == left
+    read_full(input, &mut buf[0..left]) == left
 }
 
 // The op and the length of a case; off where the input ends inside them.
-fn read_head() -> Head {
+fn read_head(input: &mut impl Read) -> Head {
     let mut bytes = [0u8; 5];
-    let got = io::read_full(0, &mut bytes);
+    let got = read_full(input, &mut bytes);
     Head {
         on: got == 5,
         op: bytes[0],
@@ -120,33 +144,50 @@ fn read_head() -> Head {
 }
 
 // A line ends: all of it is behind what is to print.
-fn ended(out: &mut [u8], at: usize) -> Went {
+fn ended(rt: &impl Print, out: &mut [u8], at: usize) -> io::Result<Went> {
     let end = text::put(out, at, 10);
-    Went {
+    Ok(Went {
         on: true,
-        used: flush(out, end, out.len() / 2),
-    }
+        used: flush(rt, out, end, out.len() / 2)?,
+    })
 }
 
 // The line of a case that is too long.
-fn too_long(buf: &mut [u8], size: usize, out: &mut [u8], used: usize) -> Went {
-    if skip(buf, size) {
+fn too_long(
+    rt: &impl Print,
+    input: &mut impl Read,
+    buf: &mut [u8],
+    size: usize,
+    out: &mut [u8],
+    used: usize,
+) -> io::Result<Went> {
+    if skip(input, buf, size) {
         let to = text::bad_case(out, used);
-        return ended(out, to);
+        return ended(rt, out, to);
     }
-    Went { on: false, used }
+    Ok(Went { on: false, used })
 }
 
 // One case: its op, its length and its payload are read, and its line is put behind what is to print.
-fn turn(buf: &mut [u8], dst: &mut [u8], table: &mut [u16], out: &mut [u8], used: usize) -> Went {
-    let h = read_head();
+fn turn(
+    rt: &impl Print,
+    input: &mut impl Read,
+    buf: &mut [u8],
+    dst: &mut [u8],
+    table: &mut [u16],
+    out: &mut [u8],
+    used: usize,
+) -> io::Result<Went> {
+    let h = read_head(input);
     if h.on {
-        return answered(h.op, h.size, buf, dst, table, out, used);
+        return answered(rt, input, h.op, h.size, buf, dst, table, out, used);
     }
-    Went { on: false, used }
+    Ok(Went { on: false, used })
 }
 
 fn answered(
+    rt: &impl Print,
+    input: &mut impl Read,
     op: u8,
     size: usize,
     buf: &mut [u8],
@@ -154,15 +195,15 @@ fn answered(
     table: &mut [u16],
     out: &mut [u8],
     used: usize,
-) -> Went {
+) -> io::Result<Went> {
     if buf.len() < size {
-        return too_long(buf, size, out, used);
+        return too_long(rt, input, buf, size, out, used);
     }
-    if io::read_full(0, &mut buf[0..size]) < size {
-        return Went { on: false, used };
+    if read_full(input, &mut buf[0..size]) < size {
+        return Ok(Went { on: false, used });
     }
     let to = answer(op, &buf[0..size], dst, table, out, used);
-    ended(out, to)
+    ended(rt, out, to)
 }
 
 // How many turns are left: none once the input has ended.
@@ -176,21 +217,36 @@ fn left(turns: u64, on: bool) -> u64
     0
 }
 
-fn run(buf: &mut [u8], dst: &mut [u8], table: &mut [u16], out: &mut [u8]) {
+fn run(
+    rt: &impl Print,
+    input: &mut impl Read,
+    buf: &mut [u8],
+    dst: &mut [u8],
+    table: &mut [u16],
+    out: &mut [u8],
+) -> io::Result<()> {
     let mut turns = u64::MAX;
     let mut used = 0;
     while turns > 0 {
-        let t = turn(buf, dst, table, out, used);
+        let t = turn(rt, input, buf, dst, table, out, used)?;
         used = t.used;
         turns = left(turns, t.on);
     }
-    flush(out, used, 0);
+    flush(rt, out, used, 0)?;
+    Ok(())
 }
 
-fn main() {
+fn main(rt: HostRuntime) -> io::Result<()> {
     let mut buf = [0u8; 66000];
     let mut dst = [0u8; 66000];
     let mut table = [0u16; 4096];
     let mut out = [0u8; 400000];
-    run(&mut buf, &mut dst, &mut table, &mut out);
+    run(
+        &rt,
+        &mut rt.stdin(),
+        &mut buf,
+        &mut dst,
+        &mut table,
+        &mut out,
+    )
 }

@@ -1,4 +1,5 @@
 // Puts text behind what is to print. What the room cannot hold is dropped: the room is twice the longest line.
+use itoa::Buffer;
 use nts::{Code, NtsError, Refusal};
 use record::{ByteCount, Part};
 
@@ -21,9 +22,9 @@ pub(super) fn put_text(out: &mut [u8], at: usize, text: &[u8]) -> usize {
 }
 
 pub(super) fn put_decimal(out: &mut [u8], at: usize, n: u64) -> usize {
-    let mut digits = [0u8; 20];
-    let k = io::decimal(n, &mut digits);
-    put_text(out, at, &digits[..k])
+    let mut digits = Buffer::new();
+    let text = digits.format(n);
+    put_text(out, at, text.as_bytes())
 }
 
 fn glyph(d: u8) -> u8 {

@@ -13,7 +13,7 @@ use lib.ListN.{length, get_or}
 use Rattle.utf8.specs.Class.{AS, class_of, class_size, Table, Leads}
 use Rattle.utf8.proofs.Classes.{leads, ascii_classes}
 use Rattle.utf8.proofs.class_of.Reads as class_of
-use Rattle.utf8.proofs.lead_size.Reads as lead_size_lem
+use Rattle.utf8.proofs.lead_size.Reads as lead_size
 use Rattle.utf8.proofs.is_ascii.Reads as is_ascii
 
 pub table_leads : (t : List ℕ) → Table t → (a : ℕ) → a < 256 → Leads a (get_or t a 0)
@@ -25,7 +25,7 @@ class_of_rule κs a r e p = p
 pub class_of_leads : (κs : _) (a : _) (r : _) (e : _) → class_of.Learnt κs a r e → Leads a.0 r
 class_of_leads κs a r e p = subst⁻¹ (λ (c : ℕ). Leads a.0 c) p (leads a.0)
 
-pub class_of_sized : (κs κs' : _) (a : _) (r n : _) (e e' : _) → class_of.Learnt κs a r e → lead_size_lem.Learnt κs' a n e' → class_size r ≡ n
+pub class_of_sized : (κs κs' : _) (a : _) (r n : _) (e e' : _) → class_of.Learnt κs a r e → lead_size.Learnt κs' a n e' → class_size r ≡ n
 class_of_sized κs κs' a r n e e' p q = (class_of_leads κs a r e p).size ∙ sym q
 
 pub is_ascii_classes : (κs : _) (a : _) (r : _) (e : _) → is_ascii.Learnt κs a r e

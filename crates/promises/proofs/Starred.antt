@@ -1,14 +1,14 @@
 -- 01's table of messages, the rows marked *, and the strict profile's, for every call of the reader of requests and of those that a host links: over the definition they are
 -- `messages` and `strict_messages` (request/proofs/Messages.antt), and every call answers as the definition does.
 -- Assumes nothing.
-use mathlib.Core.Path.{◌≡◌, refl, sym, ap, subst, ◌∙◌}
+use mathlib.Core.Path.{◌≡◌, refl, ap, subst, ◌∙◌}
 use mathlib.Core.List.{List, [], ◌∷◌}
 use Prim.Native.Nat.{ℕ}
 use Rattle.layout.specs.declared.Profile.{Profile}
 use Rattle.walk.specs.Judge.{refused, accepted}
 use Rattle.walk.specs.Judge as judge
 use Rattle.request.specs.Request.{Form, request}
-use Rattle.request.specs.Messages.{Outcome, outcome, Under, Row, table, strict_table, Holds}
+use Rattle.request.specs.Messages.{Outcome, outcome, Row, table, strict_table, Holds}
 use Rattle.request.proofs.Order.{room_alone, shows, reading}
 use Rattle.request.proofs.Messages.{messages, strict_messages}
 use Rattle.promises.specs.Handed.{Shown, in_hand}

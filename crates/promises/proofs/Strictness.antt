@@ -7,28 +7,27 @@ use mathlib.Core.Bool.{Bool, true, false, cond, not, ◌&&◌, ◌||◌, and-fal
 use mathlib.Core.Logic.{◌⊎◌, inl, inr}
 use Prim.Native.Nat.{ℕ, zero, suc, ◌+◌, ◌-◌, ◌/◌, ◌≤◌, ◌<◌}
 use native.Mathlib.Omega.{arith}
-use native.Mathlib.Nat.{add_assoc, add-zero}
-use lib.ListN.{length, take, drop, length-append, length-take, length-drop}
+use native.Mathlib.Nat.{add-zero}
+use lib.ListN.{length, take, drop, length-append, length-drop}
 use lib.Seq.{length-take-le}
-use lib.Dec.{ltb, leb, eqb}
-use borrow.Author.Tests.{eqb-true, eq-eqb, le-ltb, ltb-false}
+use lib.Dec.{ltb, eqb}
+use borrow.Author.Tests.{eqb-true, le-ltb, ltb-false}
 use Rattle.utf8.specs.Ascii.{is_ascii}
 use Rattle.utf8.proofs.Tests.{on}
 use Rattle.nts.specs.Refusal.{Beside, nothing, code, Refused}
 use Rattle.layout.specs.Profile.{asks_of, is_final, shape_in, knows, allows}
-use Rattle.layout.specs.Table.{shape_of}
 use Rattle.layout.specs.declared.Profile.{Profile}
 use Rattle.layout.specs.declared.Profile.TheVariants.{Usual, Strict}
 use Rattle.layout.specs.declared.Shape.{Shape}
-use Rattle.layout.proofs.Profiles.{strict_far, strict_near, strict_usual, strict_shape, unknown_shape, unknown_allows, usual_allows, usual_shape, zero_known, zero_shape}
-use Rattle.record.specs.Record.{kind, critical, size, there, fault_by, fault}
-use Rattle.walk.specs.Walk.{Act, ends, passes, notes, refuses, Reader, fault_in, act_in, Sighting, Outcome, stopped, ended, Step, stops, goes, has, meet, judge, step, walk, behind, walked}
+use Rattle.layout.proofs.Profiles.{strict_far, strict_near, strict_usual, strict_shape, unknown_shape, unknown_allows, usual_allows, usual_shape}
+use Rattle.record.specs.Record.{kind, critical, size, there, fault_by}
+use Rattle.walk.specs.Walk.{Act, ends, passes, notes, refuses, Reader, fault_in, act_in, Sighting, Outcome, stopped, ended, Step, stops, goes, has, meet, judge, step, walk, walked}
 use Rattle.walk.specs.Judge.{Terms, Under, Judge, Verdict, no, yes, room_for, some, with_first, of_kind, body_in, Answer, refused, accepted, placed, finish, read_as, read_by}
-use Rattle.walk.specs.Message.{Whole, Record, End, Each, flat, message, Parts}
+use Rattle.walk.specs.Message.{Whole, Record, End, Each, flat, Parts}
 use Rattle.walk.specs.Table.{meaning, act_by, table_reader}
 use Rattle.walk.proofs.Unroll.{after}
 use Rattle.walk.proofs.Chunks.{unroll_chunk, each_map}
-use Rattle.walk.proofs.Passing.{is_calm, is_notes, noted, reached, seen_in, sighting_at, Fine, grow, again, Tells, step_tells, step_fine, take_over}
+use Rattle.walk.proofs.Passing.{is_calm, is_notes, noted, reached, seen_in, sighting_at, Fine, grow, Tells, step_tells, step_fine, take_over}
 use Rattle.walk.proofs.Behind.{follows, walked_ended, walked_alone, ended_walked, stopped_walked}
 use Rattle.walk.proofs.Demand3.{zero_act, ends_zero}
 use Rattle.walk.proofs.Numbered.{record_few}

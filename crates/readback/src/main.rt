@@ -5,26 +5,26 @@ use nts::{AeadAlgorithm, NextProtocol, NtsError};
 use plan::{Appended, Plan};
 use record::{ByteCount, Profile};
 use reply::{Answer, KeyExchangeResponse, Port, Server};
+use std::io;
 
 // The server's name, and the limit under which the reply is read.
 const NAME: [u8; 11] = *b"ntp.example";
 
 const LIMIT: u16 = 1024;
 
-fn print(word: &[u8], text: &[u8]) {
-    io::write_all(1, word);
-    io::write_all(1, text);
-    io::write_all(1, b"\n");
+fn print(rt: &impl Print, word: &[u8], text: &[u8]) -> io::Result<()> {
+    rt.write_all(word)?;
+    rt.write_all(text)?;
+    rt.write_all(b"\n")
 }
 
-fn print_number(word: &[u8], n: u64) {
-    let mut digits = [0u8; 20];
-    let k = io::decimal(n, &mut digits);
-    print(word, &digits[..k]);
+fn print_number(rt: &impl Print, word: &[u8], n: u64) -> io::Result<()> {
+    rt.write_all(word)?;
+    rt.println(n)
 }
 
-fn print_refusal(error: NtsError) {
-    print_number(b"refused ", error.number() as u64);
+fn print_refusal(rt: &impl Print, error: NtsError) -> io::Result<()> {
+    print_number(rt, b"refused ", error.number() as u64)
 }
 
 fn planned() -> Plan {
@@ -34,52 +34,58 @@ fn planned() -> Plan {
     with_name.set_keep_alive()
 }
 
-fn with_cookie(plan: Plan, cookie: &[u8], tray: &mut [u8]) -> Plan {
+fn with_cookie(rt: &impl Print, plan: Plan, cookie: &[u8], tray: &mut [u8]) -> io::Result<Plan> {
     let answer = plan.append(cookie, tray);
     match answer {
-        Appended::Plan(next) => next,
+        Appended::Plan(next) => Ok(next),
         Appended::Refused(error) => {
-            print_refusal(error);
-            plan
+            print_refusal(rt, error)?;
+            Ok(plan)
         }
     }
 }
 
-fn print_server(message: &[u8], server: Server) {
+fn print_server(rt: &impl Print, message: &[u8], server: Server) -> io::Result<()> {
     match server {
-        Server::Sent(name) => print(b"server ", name.of(message)),
-        Server::NotSent => print(b"no server", b""),
+        Server::Sent(name) => print(rt, b"server ", name.of(message)),
+        Server::NotSent => print(rt, b"no server", b""),
     }
 }
 
-fn print_port(port: Port) {
+fn print_port(rt: &impl Print, port: Port) -> io::Result<()> {
     match port {
-        Port::Sent(n) => print_number(b"port ", n as u64),
-        Port::NotSent => print(b"no port", b""),
+        Port::Sent(n) => print_number(rt, b"port ", n as u64),
+        Port::NotSent => print(rt, b"no port", b""),
     }
 }
 
-fn print_cookies(message: &[u8], table: &[u16], count: usize) {
+fn print_cookies(rt: &impl Print, message: &[u8], table: &[u16], count: usize) -> io::Result<()> {
     let mut i: usize = 0;
     while i < count {
-        print(b"cookie ", places::entry(message, table, i));
+        print(rt, b"cookie ", places::entry(message, table, i))?;
         i += 1;
     }
+    Ok(())
 }
 
-fn print_reply(message: &[u8], table: &[u16], reply: KeyExchangeResponse) {
+fn print_reply(
+    rt: &impl Print,
+    message: &[u8],
+    table: &[u16],
+    reply: KeyExchangeResponse,
+) -> io::Result<()> {
     let server = reply.server;
     let port = reply.port;
-    print_number(b"protocol ", reply.protocol.0 as u64);
-    print_number(b"algorithm ", reply.algorithm.0 as u64);
-    print_server(message, server);
-    print_port(port);
-    print_number(b"keep-alive ", reply.keep_alive as u64);
-    print_number(b"cookies ", reply.cookies as u64);
-    print_cookies(message, table, reply.cookies);
+    print_number(rt, b"protocol ", reply.protocol.0 as u64)?;
+    print_number(rt, b"algorithm ", reply.algorithm.0 as u64)?;
+    print_server(rt, message, server)?;
+    print_port(rt, port)?;
+    print_number(rt, b"keep-alive ", reply.keep_alive as u64)?;
+    print_number(rt, b"cookies ", reply.cookies as u64)?;
+    print_cookies(rt, message, table, reply.cookies)
 }
 
-fn read(message: &[u8], table: &mut [u16]) {
+fn read(rt: &impl Print, message: &[u8], table: &mut [u16]) -> io::Result<()> {
     let protocols = [NextProtocol::NTPV4.0];
     let algorithms = [AeadAlgorithm::AES_SIV_CMAC_256.0];
     let answer = KeyExchangeResponse::parse(
@@ -91,40 +97,45 @@ fn read(message: &[u8], table: &mut [u16]) {
         table,
     );
     match answer {
-        Answer::Accepted(reply) => print_reply(message, table, reply),
+        Answer::Accepted(reply) => print_reply(rt, message, table, reply),
         Answer::Refused(refusal) => {
             let error = refusal.error;
-            print_refusal(error)
+            print_refusal(rt, error)
         }
     }
 }
 
-fn with_cookies(tray: &mut [u8]) -> Plan {
-    let first = with_cookie(planned(), b"first", tray);
-    let second = with_cookie(first, b"second", tray);
-    with_cookie(second, b"third", tray)
+fn with_cookies(rt: &impl Print, tray: &mut [u8]) -> io::Result<Plan> {
+    let first = with_cookie(rt, planned(), b"first", tray)?;
+    let second = with_cookie(rt, first, b"second", tray)?;
+    with_cookie(rt, second, b"third", tray)
 }
 
 // What a writer wrote, read.
-fn read_written(answer: ByteCount, out: &[u8], table: &mut [u16]) {
+fn read_written(
+    rt: &impl Print,
+    answer: ByteCount,
+    out: &[u8],
+    table: &mut [u16],
+) -> io::Result<()> {
     match answer {
         ByteCount::Bytes(n) => {
-            print_number(b"wrote ", n as u64);
-            read(wire::part(out, 0, n), table)
+            print_number(rt, b"wrote ", n as u64)?;
+            read(rt, wire::part(out, 0, n), table)
         }
-        ByteCount::Refused(error) => print_refusal(error),
+        ByteCount::Refused(error) => print_refusal(rt, error),
     }
 }
 
-fn run(tray: &mut [u8], out: &mut [u8], table: &mut [u16]) {
-    let plan = with_cookies(tray);
+fn run(rt: &impl Print, tray: &mut [u8], out: &mut [u8], table: &mut [u16]) -> io::Result<()> {
+    let plan = with_cookies(rt, tray)?;
     let answer = outgoing::write_reply(plan, tray, &NAME, out);
-    read_written(answer, out, table);
+    read_written(rt, answer, out, table)
 }
 
-fn main() {
+fn main(rt: HostRuntime) -> io::Result<()> {
     let mut tray = [0u8; 64];
     let mut out = [0u8; 128];
     let mut table = [0u16; 8];
-    run(&mut tray, &mut out, &mut table);
+    run(&rt, &mut tray, &mut out, &mut table)
 }

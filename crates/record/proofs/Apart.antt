@@ -8,7 +8,7 @@ use lib.Dec.{eqb}
 use Rattle.nts.proofs.Apart.{apart, refusal_apart}
 use Rattle.nts.specs.Refusal.{told_refusal}
 use Rattle.layout.specs.declared.Part.{Part}
-use Rattle.record.specs.Record.{Value, skipped, number, part, halves, unknown, Seen, read, whole, broken}
+use Rattle.record.specs.Record.{Value, skipped, number, part, halves, unknown, Seen, read}
 use Rattle.record.specs.Entry as entry
 use Rattle.record.specs.Told.{told_record, told_parsed, told_looked, told_protocol, told_algorithm, told_pair}
 use Rattle.record.specs.declared.Cursor.{Cursor}

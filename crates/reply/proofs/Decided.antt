@@ -10,7 +10,6 @@ use lib.ListN.{length, get_or}
 use lib.Dec.{ltb, eqb}
 use Rattle.wire.specs.Bytes.{number_at}
 use Rattle.nts.specs.Refusal.{Beside, nothing, protocol, algorithm}
-use Rattle.layout.specs.Table.{row_of, shape_of}
 use Rattle.walk.specs.Walk.{Sighting}
 use Rattle.walk.specs.Judge.{Verdict, Terms, with_first, body_in, part_of, placed}
 use Rattle.walk.specs.Rules.{is_noted}

@@ -13,7 +13,6 @@ use Rattle.wire.specs.Bytes.{number_at}
 use Rattle.wire.proofs.Bytes.{number_drop, number_take}
 use Rattle.nts.specs.Refusal.{Beside, nothing, code}
 use Rattle.nts.specs.Algorithm.{describe, told_description}
-use Rattle.layout.specs.Table.{row_of, shape_of}
 use Rattle.layout.specs.declared.Part.{Part}
 use Rattle.nts.specs.declared.AlgorithmDescription.{AlgorithmDescription}
 use Rattle.nts.specs.declared.Description.{Description}

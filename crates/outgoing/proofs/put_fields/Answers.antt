@@ -1,9 +1,7 @@
 -- `outgoing::put_fields` meets its contract: the loop's invariant is that the records of the fields passed stand in the output.
-use borrow.Author.Rules.{rules}
 use native.Mathlib.Omega.{arith}
-use Prim.Native.Nat.{◌-◌}
 use Rattle.messages.proofs.Putting.{within_rest}
-use Rattle.outgoing.proofs.Laying.{Laying, laying_start, laying_end, laying_inside, laying_body, laying_on, laying_place, laying_long, laying_within, laying_onward, body_tried}
+use Rattle.outgoing.proofs.Laying.{laying_start, laying_end, laying_inside, laying_body, laying_on, laying_place, laying_long, laying_within, laying_onward, body_tried}
 use Rattle.outgoing.proofs.put_fields.Goals as goal
 
 pub loop-at-init : goal.loop-at-init
@@ -24,8 +22,8 @@ slice_bounds-put_body-start c = laying_place _ _ _ _ _ _ _ c.loop-at.invariant
 pub overflow_add-to : goal.overflow_add-to
 overflow_add-to c = omega (arith, laying_long _ _ _ _ _ _ _ c.loop-at.invariant, within_rest c.loop-at.out c.loop-at.to _ (laying_place _ _ _ _ _ _ _ c.loop-at.invariant) c.put_body-to.ensures.within)
 
-pub overflow_add-at : goal.overflow_add-at
-overflow_add-at c = omega (arith, laying_inside _ _ _ _ _ _ _ c.loop-at.invariant c.loop-at-test.true _ c.number_at-size.ensures)
+pub overflow_add-at-in-loop-at : goal.overflow_add-at-in-loop-at
+overflow_add-at-in-loop-at c = omega (arith, laying_inside _ _ _ _ _ _ _ c.loop-at.invariant c.loop-at-test.true _ c.number_at-size.ensures)
 
 pub loop-at-smaller : goal.loop-at-smaller
 loop-at-smaller c = omega (arith, c.loop-at-test.true, laying_onward _ _ _ _ _ _ _ c.loop-at.invariant c.loop-at-test.true _ c.number_at-size.ensures)

@@ -1,5 +1,4 @@
 -- `outgoing::request_length` meets its contract: each return is the definition's for what was found before it.
-use borrow.Author.Rules.{rules}
 use native.Mathlib.Omega.{arith}
 use mathlib.Core.Path.{sym, ap, ◌∙◌}
 use Prim.Native.Nat.{◌*◌}
@@ -11,7 +10,7 @@ use Rattle.outgoing.proofs.Judging.{request_broken, request_ill, request_long, r
 use Rattle.outgoing.proofs.request_length.Goals as goal
 
 pub returns-in_default : goal.returns-in_default
-returns-in_default c = request_broken _ _ _ _ (ap told_tally (sym c.in_default.is) ∙ c.walk_tray-tally.ensures)
+returns-in_default c = request_broken c.args.protocols.now c.args.algorithms.now _ _ (ap told_tally (sym c.in_default.is) ∙ c.walk_tray-tally.ensures)
 
 pub are_utf8-requires : goal.are_utf8-requires
 are_utf8-requires c = let x = names_of _ _ _ _ (ap told_tally (sym c.in-Whole.is) ∙ c.walk_tray-tally.ensures) in (2, x.bodies, x.walked)
@@ -41,4 +40,4 @@ pub returns-then-are_utf8 : goal.returns-then-are_utf8
 returns-then-are_utf8 c = request_judged _ _ _ _ _ _ (ap told_tally (sym c.in-Whole.is) ∙ c.walk_tray-tally.ensures) _ c.are_utf8.ensures c.if-are_utf8.true (sym c.too_long.ensures ∙ c.if-too_long.false) (sym c.too_long-then-are_utf8.ensures ∙ c.if-too_long-2.false) _ (omega arith)
 
 pub returns : goal.returns
-returns c = request_ill _ _ _ _ _ _ (ap told_tally (sym c.in-Whole.is) ∙ c.walk_tray-tally.ensures) _ c.are_utf8.ensures c.if-are_utf8.false
+returns c = request_ill c.args.protocols.now c.args.algorithms.now _ _ _ _ (ap told_tally (sym c.in-Whole.is) ∙ c.walk_tray-tally.ensures) _ c.are_utf8.ensures c.if-are_utf8.false

@@ -1,5 +1,4 @@
 -- `outgoing::write_reply` meets its contract: what was judged is put.
-use borrow.Author.Rules.{rules}
 use mathlib.Core.Path.{sym, ap, ◌∙◌}
 use native.Mathlib.Omega.{arith}
 use Rattle.wire.proofs.Over.{put_as}
@@ -17,7 +16,7 @@ pub returns-then-out-n : goal.returns-then-out-n
 returns-then-out-n c = judged_short _ _ _ _ _ c.check_reply-checked.ensures c.in-Bytes.is c.if-out-n.true
 
 pub put_reply-requires : goal.put_reply-requires
-put_reply-requires c = let k = reply_cleared _ _ _ _ (sym c.check_reply-checked.ensures ∙ ap told_count c.in-Bytes.is) in (k.bodies, k.are, k.named, omega (arith, k.long, c.if-out-n.false))
+put_reply-requires c = let k = reply_cleared c.args.plan c.args.server.now _ _ (sym c.check_reply-checked.ensures ∙ ap told_count c.in-Bytes.is) in (k.bodies, k.are, k.named, omega (arith, k.long, c.if-out-n.false))
 
 pub returns : goal.returns
-returns c = let k = reply_cleared _ _ _ _ (sym c.check_reply-checked.ensures ∙ ap told_count c.in-Bytes.is) in judged_room _ _ _ c.check_reply-checked.ensures c.in-Bytes.is c.if-out-n.false (put_as (c.put_reply.ensures k.bodies k.are) (sym k.long) (ap (λ (f : Fields). message_of (reply_records c.args.plan c.args.server.now (bodies_of f))) (sym k.are)))
+returns c = let k = reply_cleared c.args.plan c.args.server.now _ _ (sym c.check_reply-checked.ensures ∙ ap told_count c.in-Bytes.is) in judged_room _ _ _ c.check_reply-checked.ensures c.in-Bytes.is c.if-out-n.false (put_as (c.put_reply.ensures k.bodies k.are) (sym k.long) (ap (λ (f : Fields). message_of (reply_records c.args.plan c.args.server.now (bodies_of f))) (sym k.are)))

@@ -11,23 +11,20 @@ use borrow.Author.Rules.{rules}
 use Rattle.pieces.proofs.come.Goals as goal
 
 pub overflow_sub-limit : goal.overflow_sub-limit
-overflow_sub-limit c = let s = c in (unbroken (told_connection s.args.connection) s.args.buffer.now s.pre).1
+overflow_sub-limit c = (unbroken (told_connection c.args.connection) c.args.buffer.now c.requires).1
 
 pub overflow_add-long : goal.overflow_add-long
 overflow_add-long c =
-    let s = c in
-    let u = (unbroken (told_connection s.args.connection) s.args.buffer.now s.pre).1 in
-    let i : s.args.connection.gathered + c.smaller.result ≤ s.args.connection.limit =
-    omega (arith, c.smaller.ensures, smaller_min (length s.args.piece.now) (s.args.connection.limit - s.args.connection.gathered), u) in
+    let u = (unbroken (told_connection c.args.connection) c.args.buffer.now c.requires).1 in
+    let i : c.args.connection.gathered + c.smaller.result ≤ c.args.connection.limit =
+    omega (arith, c.smaller.ensures, smaller_min (length c.args.piece.now) (c.args.connection.limit - c.args.connection.gathered), u) in
     search rules
 
 pub slice_bounds-after_end-end : goal.slice_bounds-after_end-end
 slice_bounds-after_end-end c =
-    let s = c in
-    gathered_room (rules_of s.args.connection s.args.rules.now) s.args.connection s.args.piece.now s.args.closed s.args.buffer.now s.pre _ _ c.gather-came.ensures
+    gathered_room (rules_of c.args.connection c.args.rules.now) c.args.connection c.args.piece.now c.args.closed c.args.buffer.now c.requires _ _ c.gather-came.ensures
 
 pub returns : goal.returns
 returns c =
-    let s = c in
-    come_by (rules_of s.args.connection s.args.rules.now) s.args.connection s.args.piece.now s.args.closed s.args.buffer.now s.pre _ _ c.gather-came.ensures
+    come_by (rules_of c.args.connection c.args.rules.now) c.args.connection c.args.piece.now c.args.closed c.args.buffer.now c.requires _ _ c.gather-came.ensures
     _ _ c.smaller.ensures refl _ c.after_end.ensures

@@ -1,6 +1,5 @@
 -- `pieces::feed_reply` meets its contract: by whether the connection counts too much, and then by its state.
 use mathlib.Core.Path.{sym, ap, ◌∙◌}
-use borrow.Author.Rules.{rules}
 use Rattle.pieces.specs.Pieces.{broken, told_state}
 use Rattle.pieces.specs.Code.{counts}
 use Rattle.pieces.specs.Reads.{reply_read}
@@ -22,7 +21,7 @@ reply_again-requires c = counted_inside c.args.connection c.args.buffer.now (sym
 
 pub returns-in-Accepted : goal.returns-in-Accepted
 unfolding counts broken
-returns-in-Accepted c = hands_accepted reply_read _ _ _ _ _ (sym c.is_broken.ensures ∙ c.if-is_broken.false) (ap told_state c.enum_told-in-Accepted-1.given.1) _ c.reply_again.ensures
+returns-in-Accepted c = hands_accepted reply_read _ _ _ _ _ (sym c.is_broken.ensures ∙ c.if-is_broken.false) (ap told_state c.in-Accepted.is) _ c.reply_again.ensures
 
 pub returns-in-Refused : goal.returns-in-Refused
 unfolding counts broken

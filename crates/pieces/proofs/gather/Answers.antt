@@ -14,56 +14,37 @@ slice_bounds-scan-start c = smaller_below _ _ _ c.smaller-start.ensures
 
 pub slice_bounds-scan-end : goal.slice_bounds-scan-end
 slice_bounds-scan-end c =
-    let s = c in
-    (unbroken (told_connection s.args.connection) s.args.buffer.now s.requires).0
+    (unbroken (told_connection c.args.connection) c.args.buffer.now c.requires).0
 
 pub overflow_add-result : goal.overflow_add-result
 overflow_add-result c =
-    let w = c in
-    let m = w.before.before.before in
-    let s = m.before.before.before in
-    let i = (decides_places (rules_of s.args.connection s.args.rules.now) s.args.connection s.args.piece.now s.args.closed s.args.buffer.now s.requires _ m.smaller.ensures
-    _ _ _ (ap told_scanned (sym c.in-Decides.is) ∙ w.scan.ensures)).1 in
+    let i = (decides_places (rules_of c.args.connection c.args.rules.now) c.args.connection c.args.piece.now c.args.closed c.args.buffer.now c.requires _ c.smaller-start.ensures
+    _ _ _ (ap told_scanned (sym c.in-Decides.is) ∙ c.scan-scanned.ensures)).1 in
     search rules
 
 pub overflow_add-result-in-Decides : goal.overflow_add-result-in-Decides
 overflow_add-result-in-Decides c =
-    let w = c in
-    let m = w.before.before.before in
-    let s = m.before.before.before in
-    let i = (decides_places (rules_of s.args.connection s.args.rules.now) s.args.connection s.args.piece.now s.args.closed s.args.buffer.now s.requires _ m.smaller.ensures
-    _ _ _ (ap told_scanned (sym c.in-Decides.is) ∙ w.scan.ensures)).0 in
+    let i = (decides_places (rules_of c.args.connection c.args.rules.now) c.args.connection c.args.piece.now c.args.closed c.args.buffer.now c.requires _ c.smaller-start.ensures
+    _ _ _ (ap told_scanned (sym c.in-Decides.is) ∙ c.scan-scanned.ensures)).0 in
     search rules
 
 pub overflow_add-front : goal.overflow_add-front
 overflow_add-front c =
-    let w = c in
-    let m = w.before.before.before in
-    let s = m.before.before.before in
-    let i = waits_place (rules_of s.args.connection s.args.rules.now) s.args.connection s.args.piece.now s.args.closed s.args.buffer.now s.requires _ m.smaller.ensures
-    _ _ (ap told_scanned (sym c.in-Waits.is) ∙ w.scan.ensures) in
+    let i = waits_place (rules_of c.args.connection c.args.rules.now) c.args.connection c.args.piece.now c.args.closed c.args.buffer.now c.requires _ c.smaller-start.ensures
+    _ _ (ap told_scanned (sym c.in-Waits.is) ∙ c.scan-scanned.ensures) in
     search rules
 
 pub take_piece-requires : goal.take_piece-requires
 take_piece-requires c =
-    let w = c in
-    let m = w.before.before.before in
-    let s = m.before.before.before in
-    gathered_fits (rules_of s.args.connection s.args.rules.now) s.args.connection s.args.piece.now s.args.closed s.args.buffer.now s.requires _ m.smaller.ensures
-    _ _ (ap told_scanned (sym c.in-Waits.is) ∙ w.scan.ensures)
+    gathered_fits (rules_of c.args.connection c.args.rules.now) c.args.connection c.args.piece.now c.args.closed c.args.buffer.now c.requires _ c.smaller-start.ensures
+    _ _ (ap told_scanned (sym c.in-Waits.is) ∙ c.scan-scanned.ensures)
 
 pub returns-in-Decides : goal.returns-in-Decides
 returns-in-Decides c =
-    let w = c in
-    let m = w.before.before.before in
-    let s = m.before.before.before in
-    gathered_decides (rules_of s.args.connection s.args.rules.now) s.args.connection s.args.piece.now s.args.closed s.args.buffer.now s.requires _ m.smaller.ensures
-    _ _ _ (ap told_scanned (sym c.in-Decides.is) ∙ w.scan.ensures)
+    gathered_decides (rules_of c.args.connection c.args.rules.now) c.args.connection c.args.piece.now c.args.closed c.args.buffer.now c.requires _ c.smaller-start.ensures
+    _ _ _ (ap told_scanned (sym c.in-Decides.is) ∙ c.scan-scanned.ensures)
 
 pub returns-in-Waits : goal.returns-in-Waits
 returns-in-Waits c =
-    let w = c in
-    let m = w.before.before.before in
-    let s = m.before.before.before in
-    gathered_waits (rules_of s.args.connection s.args.rules.now) s.args.connection s.args.piece.now s.args.closed s.args.buffer.now s.requires _ m.smaller.ensures
-    _ _ (ap told_scanned (sym c.in-Waits.is) ∙ w.scan.ensures) _ _ c.take_piece.ensures
+    gathered_waits (rules_of c.args.connection c.args.rules.now) c.args.connection c.args.piece.now c.args.closed c.args.buffer.now c.requires _ c.smaller-start.ensures
+    _ _ (ap told_scanned (sym c.in-Waits.is) ∙ c.scan-scanned.ensures) _ _ c.take_piece.ensures

@@ -3,7 +3,6 @@ use mathlib.Core.Path.{sym, ap, ◌∙◌}
 use Rattle.walk.specs.Met.{told_passed}
 use Rattle.pieces.proofs.Storing.{stored_first}
 use Rattle.pieces.proofs.Joining.{judged_front, judged_short, judged_halts, judged_on}
-use borrow.Author.Rules.{rules}
 use Rattle.pieces.proofs.judge_part.Goals as goal
 
 pub returns-then-begins-held : goal.returns-then-begins-held
@@ -14,18 +13,12 @@ returns-then-part-n c = judged_short _ _ _ _ _ c.requires.0 _ c.lacking-n.ensure
 
 pub returns-in_default : goal.returns-in_default
 returns-in_default c =
-    let p = c in
-    let e = p.before.before.before in
-    let s = e.before.before.before.before.before.before in
-    judged_halts _ _ _ _ _ s.requires.0 _ e.before.lacking.ensures e.if2.false _
-    (stored_first _ _ _ s.requires.0.held _ _ _ e.if2.false s.requires.1 p.put_bytes.ensures)
+    judged_halts _ _ _ _ _ c.requires.0 _ c.lacking-n.ensures c.if-part-n.false _
+    (stored_first _ _ _ c.requires.0.held _ _ _ c.if-part-n.false c.requires.1 c.put_bytes.ensures)
     (ap told_passed (sym c.in_default.is) ∙ c.pass-passed.ensures)
 
 pub returns : goal.returns
 returns c =
-    let p = c in
-    let e = p.before.before.before in
-    let s = e.before.before.before.before.before.before in
-    judged_on _ _ _ _ _ s.requires.0 _ e.before.lacking.ensures e.if2.false _
-    (stored_first _ _ _ s.requires.0.held _ _ _ e.if2.false s.requires.1 p.put_bytes.ensures)
+    judged_on _ _ _ _ _ c.requires.0 _ c.lacking-n.ensures c.if-part-n.false _
+    (stored_first _ _ _ c.requires.0.held _ _ _ c.if-part-n.false c.requires.1 c.put_bytes.ensures)
     _ _ (ap told_passed (sym c.in-On.is) ∙ c.pass-passed.ensures) c.judge_rest-2.ensures

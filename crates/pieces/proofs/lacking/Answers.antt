@@ -2,7 +2,6 @@
 use mathlib.Core.Path.{refl}
 use native.Mathlib.Omega.{arith}
 use Rattle.pieces.proofs.Joining.{lacks_header, lacks_size}
-use borrow.Author.Rules.{rules}
 use Rattle.pieces.proofs.lacking.Goals as goal
 
 pub returns-then-held-part : goal.returns-then-held-part
@@ -10,11 +9,9 @@ returns-then-held-part c = lacks_header _ _ _ c.requires.0 _ c.if-held-part.true
 
 pub returns-then-end-held : goal.returns-then-end-held
 returns-then-end-held c =
-    let e = c in
-    lacks_size _ _ _ e.before.before.before.requires.0 _ _ _ _ e.if1.false c.joined_at-high.ensures c.joined_at-low.ensures
+    lacks_size _ _ _ c.requires.0 _ _ _ _ c.if-held-part.false c.joined_at-high.ensures c.joined_at-low.ensures
     (omega (arith, c.if-end-held.true))
 
 pub returns : goal.returns
 returns c =
-    let e = c in
-    lacks_size _ _ _ e.before.before.before.requires.0 _ _ _ _ e.if1.false c.joined_at-high.ensures c.joined_at-low.ensures refl
+    lacks_size _ _ _ c.requires.0 _ _ _ _ c.if-held-part.false c.joined_at-high.ensures c.joined_at-low.ensures refl

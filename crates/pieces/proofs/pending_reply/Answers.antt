@@ -1,6 +1,5 @@
 -- `pieces::pending_reply` meets its contract: what was gathered, and where it decides the whole-message reader's answer over it.
 use mathlib.Core.Path.{refl, sym, ap, ◌∙◌}
-use borrow.Author.Rules.{rules}
 use Rattle.reply.specs.Reply as replies
 use Rattle.reply.proofs.Reader.{table_reader_lem}
 use Rattle.pieces.specs.Reads.{reply_read}
@@ -23,8 +22,8 @@ returns-in-Followed c = hands_followed reply_read reply_telling _ table_reader_l
 
 pub returns-in-Accepted : goal.returns-in-Accepted
 unfolding replies.reply_of reply_telling reply_stands
-returns-in-Accepted c = hands_decided reply_read reply_telling _ table_reader_lem _ _ _ _ c.requires _ _ c.come-came.ensures _ _ c.enum_told-in-Decided-1.given.1 _ _ (sym (ap replies.told_answer c.in-Accepted.is) ∙ c.parse-answer.ensures.says) c.parse-answer.ensures.left state.Accepted refl _ c.carried-in-Accepted.ensures
+returns-in-Accepted c = hands_decided reply_read reply_telling _ table_reader_lem _ _ _ _ c.requires _ _ c.come-came.ensures _ _ c.in-Decided.is _ _ (sym (ap replies.told_answer c.in-Accepted.is) ∙ c.parse-answer.ensures.says) c.parse-answer.ensures.left state.Accepted refl _ c.carried-in-Accepted.ensures
 
 pub returns-in-Refused : goal.returns-in-Refused
 unfolding replies.reply_of reply_telling reply_stands
-returns-in-Refused c = hands_decided reply_read reply_telling _ table_reader_lem _ _ _ _ c.requires _ _ c.come-came.ensures _ _ c.enum_told-in-Decided-1.given.1 _ _ (sym (ap replies.told_answer c.in-Refused.is) ∙ c.parse-answer.ensures.says) c.parse-answer.ensures.left (state.Refused _) refl _ c.carried-in-Refused.ensures
+returns-in-Refused c = hands_decided reply_read reply_telling _ table_reader_lem _ _ _ _ c.requires _ _ c.come-came.ensures _ _ c.in-Decided.is _ _ (sym (ap replies.told_answer c.in-Refused.is) ∙ c.parse-answer.ensures.says) c.parse-answer.ensures.left (state.Refused _) refl _ c.carried-in-Refused.ensures

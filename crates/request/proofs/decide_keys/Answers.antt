@@ -7,7 +7,6 @@ use Rattle.walk.specs.Shown.{slot_of}
 use Rattle.walk.specs.declared.Seen.{Seen}
 use Rattle.request.specs.Request.{told_answer}
 use Rattle.request.proofs.Decided.{right_keys, wrong_keys, no_algorithm_lem}
-use borrow.Author.Rules.{rules}
 use Rattle.request.proofs.decide_keys.Goals as goal
 
 pub returns-then-keys-d : goal.returns-then-keys-d

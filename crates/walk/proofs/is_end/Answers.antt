@@ -4,7 +4,6 @@ use native.Mathlib.Omega.{arith}
 use Rattle.walk.specs.Code.{Views}
 use Rattle.walk.proofs.Seeing.{sees_within, sees_inside, says_meant, says_not_allowed}
 use Rattle.walk.proofs.Marks.{ended_by, ends_broken, ends_whole}
-use borrow.Author.Rules.{rules}
 use Rattle.walk.proofs.is_end.Goals as goal
 
 pub overflow_add-start : goal.overflow_add-start
@@ -15,24 +14,18 @@ bounds-rules-slot c = sees_within _ _ _ _ _ _ _ (subst (Views _ _ _) c.in-Whole.
 
 pub returns-in-On : goal.returns-in-On
 returns-in-On c =
-    let j = c in
-    let m = j.before.before in
-    let x = subst (Views _ _ _) m.before.view.given.1 m.before.before.before.view-at.ensures in
-    ap ended_by (sym c.in-On.is) ∙ ends_whole _ _ _ 0 _ _ _ _ _ x.looks x.stands (says_meant _ _ _ _ _ _ _ _ _ x j.meant.ensures)
+    let x = subst (Views _ _ _) c.in-Whole.is c.view_at-view.ensures in
+    ap ended_by (sym c.in-On.is) ∙ ends_whole _ _ _ 0 _ _ _ _ _ x.looks x.stands (says_meant _ _ _ _ _ _ _ _ _ x c.meant-verdict.ensures)
 
 pub returns-in-End : goal.returns-in-End
 returns-in-End c =
-    let j = c in
-    let m = j.before.before in
-    let x = subst (Views _ _ _) m.before.view.given.1 m.before.before.before.view-at.ensures in
-    ap ended_by (sym c.in-End.is) ∙ ends_whole _ _ _ 0 _ _ _ _ _ x.looks x.stands (says_meant _ _ _ _ _ _ _ _ _ x j.meant.ensures)
+    let x = subst (Views _ _ _) c.in-Whole.is c.view_at-view.ensures in
+    ap ended_by (sym c.in-End.is) ∙ ends_whole _ _ _ 0 _ _ _ _ _ x.looks x.stands (says_meant _ _ _ _ _ _ _ _ _ x c.meant-verdict.ensures)
 
 pub returns-in-Stop : goal.returns-in-Stop
 returns-in-Stop c =
-    let j = c in
-    let m = j.before.before in
-    let x = subst (Views _ _ _) m.before.view.given.1 m.before.before.before.view-at.ensures in
-    ap ended_by (sym c.in-Stop.is) ∙ ends_whole _ _ _ 0 _ _ _ _ _ x.looks x.stands (says_meant _ _ _ _ _ _ _ _ _ x j.meant.ensures)
+    let x = subst (Views _ _ _) c.in-Whole.is c.view_at-view.ensures in
+    ap ended_by (sym c.in-Stop.is) ∙ ends_whole _ _ _ 0 _ _ _ _ _ x.looks x.stands (says_meant _ _ _ _ _ _ _ _ _ x c.meant-verdict.ensures)
 
 pub returns-in-NotAllowed : goal.returns-in-NotAllowed
 returns-in-NotAllowed c =

@@ -5,7 +5,6 @@ use Rattle.walk.specs.Code.{Views}
 use Rattle.walk.specs.Met.{on}
 use Rattle.walk.proofs.Seeing.{sees_within, sees_inside, says_meant, says_not_allowed}
 use Rattle.walk.proofs.Marks.{passed_by, passing_broken, passing_whole}
-use borrow.Author.Rules.{rules}
 use Rattle.walk.proofs.pass.Goals as goal
 
 pub met_before-before-requires : goal.met_before-before-requires
@@ -19,32 +18,25 @@ bounds-rules-slot c = sees_within _ _ _ _ _ _ _ (subst (Views _ _ _) c.in-Whole.
 
 pub with_met-requires : goal.with_met-requires
 with_met-requires c =
-    let m = c in
-    sees_within _ _ _ _ _ _ _ (subst (Views _ _ _) m.before.before.view.given.1 m.before.before.before.before.view-at.ensures)
+    sees_within _ _ _ _ _ _ _ (subst (Views _ _ _) c.in-Whole.is c.view_at-view.ensures)
 
 pub returns-in-On : goal.returns-in-On
 returns-in-On c =
-    let j = c in
-    let m = j.before.before in
-    let x = subst (Views _ _ _) m.before.before.view.given.1 m.before.before.before.before.view-at.ensures in
+    let x = subst (Views _ _ _) c.in-Whole.is c.view_at-view.ensures in
     ap on c.with_met.ensures ∙ ap (passed_by _ _) (sym c.in-On.is)
-    ∙ passing_whole _ _ _ _ _ _ _ _ _ _ x.looks x.stands m.met-before.ensures (says_meant _ _ _ _ _ _ _ _ _ x j.meant.ensures)
+    ∙ passing_whole _ _ _ _ _ _ _ _ _ _ x.looks x.stands c.met_before-before.ensures (says_meant _ _ _ _ _ _ _ _ _ x c.meant-verdict.ensures)
 
 pub returns-in-End : goal.returns-in-End
 returns-in-End c =
-    let j = c in
-    let m = j.before.before in
-    let x = subst (Views _ _ _) m.before.before.view.given.1 m.before.before.before.before.view-at.ensures in
+    let x = subst (Views _ _ _) c.in-Whole.is c.view_at-view.ensures in
     ap (passed_by _ _) (sym c.in-End.is)
-    ∙ passing_whole _ _ _ _ _ _ _ _ _ _ x.looks x.stands m.met-before.ensures (says_meant _ _ _ _ _ _ _ _ _ x j.meant.ensures)
+    ∙ passing_whole _ _ _ _ _ _ _ _ _ _ x.looks x.stands c.met_before-before.ensures (says_meant _ _ _ _ _ _ _ _ _ x c.meant-verdict.ensures)
 
 pub returns-in-Stop : goal.returns-in-Stop
 returns-in-Stop c =
-    let j = c in
-    let m = j.before.before in
-    let x = subst (Views _ _ _) m.before.before.view.given.1 m.before.before.before.before.view-at.ensures in
+    let x = subst (Views _ _ _) c.in-Whole.is c.view_at-view.ensures in
     ap (passed_by _ _) (sym c.in-Stop.is)
-    ∙ passing_whole _ _ _ _ _ _ _ _ _ _ x.looks x.stands m.met-before.ensures (says_meant _ _ _ _ _ _ _ _ _ x j.meant.ensures)
+    ∙ passing_whole _ _ _ _ _ _ _ _ _ _ x.looks x.stands c.met_before-before.ensures (says_meant _ _ _ _ _ _ _ _ _ x c.meant-verdict.ensures)
 
 pub returns-in-NotAllowed : goal.returns-in-NotAllowed
 returns-in-NotAllowed c =

@@ -5,7 +5,6 @@ use Rattle.record.specs.Told.{told_looked}
 use Rattle.record.proofs.Read.{look_inside}
 use Rattle.walk.specs.Code.{looked_of}
 use Rattle.walk.proofs.Looking.{slot_within, slot_is}
-use borrow.Author.Rules.{rules}
 use Rattle.walk.proofs.view_at.Goals as goal
 
 pub returns-in_default : goal.returns-in_default
@@ -24,20 +23,18 @@ overflow_cast-slot c = let j = slot_within _ _ c.slot_of-slot.ensures in omega (
 
 pub returns-then-allows : goal.returns-then-allows
 returns-then-allows c =
-    let s = c in
     record {
       kind = _;
-      looks = ap told_looked (sym s.before.before.before.answer.given.1) ∙ s.before.before.before.before.before.look.ensures;
-      stands = slot_is _ _ _ _ s.slot_of.ensures s.before.taken.ensures;
+      looks = ap told_looked (sym c.in-Whole.is) ∙ c.look-answer.ensures;
+      stands = slot_is _ _ _ _ c.slot_of-slot.ensures c.taken.ensures;
       allowed = sym c.allows.ensures ∙ c.if-allows.true;
     }
 
 pub returns : goal.returns
 returns c =
-    let s = c in
     record {
       kind = _;
-      looks = ap told_looked (sym s.before.before.before.answer.given.1) ∙ s.before.before.before.before.before.look.ensures;
-      stands = slot_is _ _ _ _ s.slot_of.ensures s.before.taken.ensures;
+      looks = ap told_looked (sym c.in-Whole.is) ∙ c.look-answer.ensures;
+      stands = slot_is _ _ _ _ c.slot_of-slot.ensures c.taken.ensures;
       allowed = sym c.allows.ensures ∙ c.if-allows.false;
     }

@@ -1,16 +1,12 @@
 -- `walk::walk_cut` meets its contract. The loop's invariant: the cells stand for the records met so far, and the walk from the place on, with
 -- those that were noted, is the whole walk.
-use mathlib.Core.Path.{refl, sym, ap, ◌∙◌}
 use Prim.Native.Nat.{◌-◌}
-use native.Mathlib.Omega.{arith}
 use lib.ListN.{length}
-use Rattle.walk.proofs.Going.{Going, going_start, going_few, step_on, step_onward, step_end, step_stop}
-use Rattle.walk.proofs.Standing.{stands_start}
-use borrow.Author.Rules.{rules}
+use Rattle.walk.proofs.Going.{Going}
 use Rattle.walk.proofs.walk_cut.Given as goal
 
 abbrev pub invariant-loop-at : goal.invariant-loop-at
-invariant-loop-at l = Going (record { l.profile = l.profile; entries = l.rules }) l.cut l.at l.cells
+invariant-loop-at l = Going (record { profile = l.profile; entries = l.rules }) l.cut l.at l.cells
 
 abbrev pub decreases-loop-at : goal.decreases-loop-at
 decreases-loop-at l = length l.cut - l.at

@@ -1,0 +1,6 @@
+-- `probe::lent::is_filled` ends: each turn leaves fewer bytes.
+use Rattle.std.proofs.Common.{◌-◌, length}
+use Rattle.probe.proofs.lent.is_filled.Given as goal
+
+abbrev pub decreases-loop-i : goal.decreases-loop-i
+decreases-loop-i l = length l.dst - l.i
