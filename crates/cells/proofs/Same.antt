@@ -3,14 +3,14 @@
 -- Assumes nothing.
 use mathlib.Core.Path.{◌≡◌, sym, ◌∙◌}
 use Rattle.cells.proofs.Lent.{gives_same}
-use Rattle.cells.proofs.refused_at.Reads as refused_at_lem
+use Rattle.cells.proofs.refused_at.Reads as refused_at
 use Rattle.cells.proofs.refused.Reads as refused
 use Rattle.cells.proofs.mark.Reads as mark
 use Rattle.cells.proofs.beside.Reads as beside
 use Rattle.cells.proofs.give_count.Reads as give_count
 use Rattle.cells.proofs.flag_of.Reads as flag_of
 
-pub refused_at_same : (κs : _) (a : _) (r r' : _) (e e' : _) → refused_at_lem.Learnt κs a r e → refused_at_lem.Learnt κs a r' e' → r ≡ r'
+pub refused_at_same : (κs : _) (a : _) (r r' : _) (e e' : _) → refused_at.Learnt κs a r e → refused_at.Learnt κs a r' e' → r ≡ r'
 refused_at_same κs a r r' e e' p q = p ∙ sym q
 
 pub refused_same : (κs : _) (a : _) (r r' : _) (e e' : _) → refused.Learnt κs a r e → refused.Learnt κs a r' e' → r ≡ r'

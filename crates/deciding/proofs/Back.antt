@@ -2,8 +2,8 @@
 -- Assumes nothing.
 use mathlib.Core.Path.{◌≡◌, refl, sym, ap, ◌∙◌}
 use mathlib.Core.List.{List, [], ◌∷◌, map}
-use mathlib.Core.Bool.{Bool, true, false, true≢false}
-use Prim.Native.Nat.{ℕ, zero, suc, ◌+◌, ◌-◌, ◌<◌, ◌≤◌}
+use mathlib.Core.Bool.{true, true≢false}
+use Prim.Native.Nat.{ℕ, zero, suc, ◌+◌, ◌<◌, ◌≤◌}
 use native.Mathlib.Omega.{arith}
 use lib.ListN.{length, take}
 use Rattle.nts.specs.Refusal.{Beside, nothing, code, protocol, algorithm, Refused}
@@ -11,7 +11,7 @@ use Rattle.layout.specs.Profile.{shape_in}
 use Rattle.layout.specs.declared.Profile.TheVariants.{Usual}
 use Rattle.walk.specs.Walk.{Outcome, stopped, ended, walked}
 use Rattle.walk.specs.Shown.{shown, counted}
-use Rattle.walk.specs.Found.{Way, way_refused, way_ended, way_of}
+use Rattle.walk.specs.Found.{way_refused, way_of}
 use Rattle.walk.specs.Finding.{Found, found_by}
 use Rattle.walk.proofs.Numbered.{bare_number, bare_not, Fits}
 use Rattle.walk.proofs.Telling.{told_stands}

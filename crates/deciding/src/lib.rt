@@ -17,8 +17,7 @@ use request::{Answer, Request};
 use walk::{Finding, Stop};
 
 // Walks over a message as if it were cut after `limit` bytes until its end record or the one refused by 1 to 4, and tells what it found. Refuses nothing.
-#[unsafe(no_mangle)]
-pub extern "C" fn ntske_walk_request(message: &[u8], limit: u16, finding: &mut [u16; 48]) -> u64
+pub fn ntske_walk_request(message: &[u8], limit: u16, finding: &mut [u16; 48]) -> u64
     ensures { Gives (cells (finding_cells (found_by (reader Profile.Usual) message.now limit))) finding.old result finding.new }
 {
     *finding = finding_cells(Request::walk(message, limit));
@@ -27,8 +26,7 @@ pub extern "C" fn ntske_walk_request(message: &[u8], limit: u16, finding: &mut [
 
 // What ntske_read_request answers of the message under the finding's limit, with the table as it leaves it. Refusals: 9 for cells that are not what
 // ntske_walk_request tells of the message under that limit, first of all, its place is 0; then 1 to 7, at a place.
-#[unsafe(no_mangle)]
-pub extern "C" fn ntske_decide_request(
+pub fn ntske_decide_request(
     finding: &[u16; 48],
     message: &[u8],
     table: &mut [u16],

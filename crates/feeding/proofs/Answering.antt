@@ -3,12 +3,11 @@
 -- Assumes nothing.
 use mathlib.Core.Path.{◌≡◌, refl, sym, ap, subst, ◌∙◌}
 use mathlib.Core.Bool.{Bool, true, false, cond, not, ◌&&◌}
-use mathlib.Core.List.{List, []}
-use Prim.Native.Nat.{ℕ, ◌≤◌, ◌<◌, ◌%◌}
+use mathlib.Core.List.{List}
+use Prim.Native.Nat.{ℕ, ◌≤◌, ◌%◌}
 use native.Mathlib.Omega.{arith}
 use lib.ListN.{length}
 use Rattle.utf8.proofs.Tests.{never, on}
-use Rattle.wire.specs.Over.{over}
 use Rattle.wire.proofs.Over.{over_none}
 use Rattle.nts.specs.Refusal.{nothing, Refused}
 use Rattle.layout.specs.declared.Profile.{Profile}
@@ -21,7 +20,7 @@ use Rattle.request.proofs.Order.{room_alone}
 use Rattle.request.proofs.Numbered.{request_numbered}
 use Rattle.reply.specs.Reply as replies
 use Rattle.reply.proofs.Numbered.{reply_numbered}
-use Rattle.pieces.specs.Pieces.{Standing, pending, accepted, refused, Line, Brought, broken, Read, Fed, none, answers, refused_at, first_answer, again, by_standing, answer_of, is_pending, filled_by, table_after, line_after, buffer_after, held, Says, nothing_yet, says, says_of}
+use Rattle.pieces.specs.Pieces.{Standing, pending, accepted, refused, Line, Brought, broken, Read, Fed, none, answers, refused_at, first_answer, again, by_standing, answer_of, is_pending, filled_by, table_after, line_after, buffer_after, held, nothing_yet, says, says_of}
 use Rattle.pieces.specs.Reads.{request_read, reply_read}
 use Rattle.reading.specs.Read.{request_given, reply_given}
 use Rattle.cells.specs.Cells as given

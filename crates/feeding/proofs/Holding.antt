@@ -5,7 +5,7 @@ use mathlib.Core.Bool.{Bool, true, false, cond, ◌&&◌, ◌||◌}
 use mathlib.Core.List.{List, [], ◌∷◌, ◌++◌}
 use Prim.Native.Nat.{ℕ, ◌≤◌, ◌<◌}
 use native.Mathlib.Omega.{arith}
-use borrow.Author.Tests.{ltb-true, ltb-false, leb-true, eqb-true}
+use borrow.Author.Tests.{ltb-true, leb-true, eqb-true}
 use lib.Dec.{leb, ltb, eqb}
 use lib.ListN.{length}
 use Rattle.utf8.proofs.Tests.{never, upto, and_left, and_right}
@@ -13,7 +13,7 @@ use Rattle.nts.specs.Refusal.{beside_number, Refused, told_refusal, error_in}
 use Rattle.cells.specs.Cells.{marked, cell}
 use Rattle.pieces.specs.Pieces.{Line, Standing, pending, accepted, refused}
 use Rattle.feeding.specs.Fed.{standing_cells, profile_cell, line_cells, has_beside, no_protocol, no_algorithm, is_mark, is_standing, is_connection, number_in, beside_in, standing_in, profile_in, line_in}
-use Rattle.feeding.specs.Code.{KeptLine, no_line, line, kept_in}
+use Rattle.feeding.specs.Code.{no_line, line, kept_in}
 
 -- ---- a refusal's number, with what was not offered
 

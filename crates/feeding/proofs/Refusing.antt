@@ -1,7 +1,7 @@
 -- Why a call that feeds a read refuses, for every sort of read: the connection counts too many bytes, the buffer is full, a byte follows the end record where none may, it was
 -- refused before, or the whole-message reader refuses; and so that its place has thirty-two bits.
 -- Assumes nothing.
-use mathlib.Core.Path.{◌≡◌, refl, sym, ap, ◌∙◌}
+use mathlib.Core.Path.{◌≡◌, refl, ap, ◌∙◌}
 use mathlib.Core.Bool.{Bool, true, false, cond, ◌&&◌, ◌||◌}
 use mathlib.Core.List.{List}
 use Prim.Native.Nat.{ℕ, ◌≤◌, ◌<◌, ◌^◌}
@@ -18,11 +18,11 @@ use Rattle.walk.proofs.Within.{refused_within}
 use Rattle.request.specs.Request as requests
 use Rattle.reply.specs.Reply as replies
 use Rattle.cells.specs.Cells.{cell}
-use Rattle.pieces.specs.Pieces.{Standing, pending, accepted, refused, Line, Brought, joined, inside, fitting, Going, waits, decides, going, begins_at, full, otherwise, How, waiting, no_room, followed, decided, Came, came_to, gathers, how_after, is_decided, after_end, comes, Read, Fed, none, answers, refused_at, answer_after, first_answer, again, by_standing, broken, answer_of, Says, nothing_yet, says, says_of}
+use Rattle.pieces.specs.Pieces.{Standing, pending, accepted, refused, Line, Brought, joined, inside, fitting, Going, waits, decides, going, begins_at, full, otherwise, How, waiting, no_room, followed, decided, Came, came_to, gathers, how_after, is_decided, after_end, comes, Read, Fed, none, answers, refused_at, answer_after, first_answer, again, by_standing, broken, answer_of, says, says_of}
 use Rattle.pieces.specs.Reads.{request_read, reply_read}
 use Rattle.pieces.proofs.Inside.{comes_gathered}
 use Rattle.feeding.specs.Fed.{is_connection, line_in}
-use Rattle.feeding.proofs.Holding.{SoundLine, line_sound, standing_held}
+use Rattle.feeding.proofs.Holding.{line_sound, standing_held}
 
 pub data Cause (X : Read) (c : Line) (r : Refused) : Type 0 where
   broke : record { number = 9; beside = nothing; place = 0 } ≡ r → Cause X c r
@@ -150,9 +150,9 @@ pub reply_tells : Tells reply_read replies.refused_with
 reply_tells m (judge.refused y) r e = let z : y ≡ r = cc in ap (λ s. judge.refused s) z
 reply_tells m (judge.accepted (replies.reply p a s t k c)) r e = let z : ◌≡◌ {A = ℕ} 0 1 = cc in absurd (omega arith)
 
-pub told_by_lem : (X : Read) (refuse : Refused → X.Told) → Tells X refuse → (c : Line) (b : List ℕ) (h : Brought) (x : Terms) (m : List ℕ) (r : Refused)
+pub told_by : (X : Read) (refuse : Refused → X.Told) → Tells X refuse → (c : Line) (b : List ℕ) (h : Brought) (x : Terms) (m : List ℕ) (r : Refused)
     → says (refuse r) ≡ says_of X m (answer_of X c b h x) → Cause X c r
-told_by_lem X refuse tells c b h x m r e = go (answer_of X c b h x) refl e
+told_by X refuse tells c b h x m r e = go (answer_of X c b h x) refl e
   where
     go : (a : Fed X.judging.Q) → answer_of X c b h x ≡ a → says (refuse r) ≡ says_of X m a → Cause X c r
     go none p q = let z : ◌≡◌ {A = ℕ} 0 1 = cc in absurd (omega arith)

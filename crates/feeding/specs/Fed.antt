@@ -1,10 +1,9 @@
 -- A read that is fed in pieces, for a host that keeps its connection as nine cells: 02, orders 1 and 5. Cells that hold no connection are 9.
 use Rattle.std.specs.Prelude.{ℕ, ◌≡◌, List, [], ◌∷◌, ◌++◌, Bool, cond, ◌&&◌, ◌||◌, leb, ltb, eqb}
-use Rattle.nts.specs.Refusal.{Beside, nothing, code, protocol, algorithm, beside_number, Refused}
+use Rattle.nts.specs.Refusal.{Beside, nothing, code, protocol, algorithm, beside_number}
 use Rattle.layout.specs.declared.Profile.{Profile}
 use Rattle.layout.specs.declared.Profile.TheVariants.{Usual, Strict}
 use Rattle.walk.specs.Judge.{Terms}
-use Rattle.pieces.specs.Pieces as pieces
 use Rattle.pieces.specs.Pieces.{Standing, pending, accepted, refused, Line, Brought, Read, Says, nothing_yet, says, says_of, held, answer_of, line_after, buffer_after, table_after}
 use Rattle.cells.specs.Cells as given
 use Rattle.cells.specs.Cells.{marked, word, unplaced, Given, returned, cell}

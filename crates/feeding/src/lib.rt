@@ -35,8 +35,7 @@ enum Kept {
 }
 
 // Starts a read under a limit, in the usual profile.
-#[unsafe(no_mangle)]
-pub extern "C" fn ntske_connection_new(limit: u16, connection: &mut [usize; 9]) -> u64
+pub fn ntske_connection_new(limit: u16, connection: &mut [usize; 9]) -> u64
     ensures { Gives (cells (line_cells (started Profile.Usual limit))) connection.old result connection.new }
 {
     *connection = connection_cells(Connection::start(Profile::Usual, limit));
@@ -44,8 +43,7 @@ pub extern "C" fn ntske_connection_new(limit: u16, connection: &mut [usize; 9]) 
 }
 
 // The same in the strict profile: each call that takes the connection reads in it. After its end record such a read waits for the limit, the close, or a byte, which is 18.
-#[unsafe(no_mangle)]
-pub extern "C" fn ntske_connection_new_strict(limit: u16, connection: &mut [usize; 9]) -> u64
+pub fn ntske_connection_new_strict(limit: u16, connection: &mut [usize; 9]) -> u64
     ensures { Gives (cells (line_cells (started Profile.Strict limit))) connection.old result connection.new }
 {
     *connection = connection_cells(Connection::start(Profile::Strict, limit));
@@ -55,23 +53,21 @@ pub extern "C" fn ntske_connection_new_strict(limit: u16, connection: &mut [usiz
 // Hands over a piece of a request, an empty one too. 0: accepted, with the answer and the table as ntske_read_request gives them; 65,535: the read waits for more. Once
 // there is an answer, it is given again, and nothing but the answer's cells changes. Refusals, at a place: 9 for cells that hold no connection, and for a
 // connection that counts more bytes than the buffer or the limit; 1 to 7; 16 for a buffer without room for a byte that the read needs; 18 in the strict profile.
-#[unsafe(no_mangle)]
-pub extern "C" fn ntske_feed_request(
+pub fn ntske_feed_request(
     connection: &mut [usize; 9],
     piece: &[u8],
     buffer: &mut [u8],
     table: &mut [u16],
     answer: &mut [usize; 10],
 ) -> u64
-    ensures { Feeds request_read request_given connection.old buffer.old (record { piece = piece.entry.now; closed = false }) (room_for (room_of table.old)) table.old answer.old
+    ensures { Feeds request_read request_given connection.old buffer.old (record { piece = piece.now; closed = false }) (room_for (room_of table.old)) table.old answer.old
         result connection.new buffer.new table.new answer.new }
 {
     fed_request(connection, buffer, table, answer, false, piece)
 }
 
 // Says that the line of a request closed: the read waits no more.
-#[unsafe(no_mangle)]
-pub extern "C" fn ntske_close_request(
+pub fn ntske_close_request(
     connection: &mut [usize; 9],
     buffer: &mut [u8],
     table: &mut [u16],
@@ -86,8 +82,7 @@ pub extern "C" fn ntske_close_request(
 
 // The same of a reply to one who offered these protocols and algorithms, with the answer and the table as ntske_read_reply gives them. The lists count that are
 // lent to the call which answers. Refusals, at a place: 9, 1 to 4, 7, 11 to 15, 16, 17; 18 in the strict profile.
-#[unsafe(no_mangle)]
-pub extern "C" fn ntske_feed_reply(
+pub fn ntske_feed_reply(
     connection: &mut [usize; 9],
     piece: &[u8],
     protocols: &[u16],
@@ -96,7 +91,7 @@ pub extern "C" fn ntske_feed_reply(
     table: &mut [u16],
     answer: &mut [usize; 9],
 ) -> u64
-    ensures { Feeds reply_read reply_given connection.old buffer.old (record { piece = piece.entry.now; closed = false }) (offering protocols.now algorithms.now (room_of table.old)) table.old answer.old
+    ensures { Feeds reply_read reply_given connection.old buffer.old (record { piece = piece.now; closed = false }) (offering protocols.now algorithms.now (room_of table.old)) table.old answer.old
         result connection.new buffer.new table.new answer.new }
 {
     fed_reply(
@@ -105,8 +100,7 @@ pub extern "C" fn ntske_feed_reply(
 }
 
 // Says that the line of a reply closed.
-#[unsafe(no_mangle)]
-pub extern "C" fn ntske_close_reply(
+pub fn ntske_close_reply(
     connection: &mut [usize; 9],
     protocols: &[u16],
     algorithms: &[u16],
@@ -140,7 +134,7 @@ fn fed_request(
     closed: bool,
     piece: &[u8],
 ) -> u64
-    ensures { Feeds request_read request_given connection.old buffer.old (record { piece = piece.entry.now; closed = closed }) (room_for (room_of table.old)) table.old answer.old
+    ensures { Feeds request_read request_given connection.old buffer.old (record { piece = piece.now; closed = closed }) (room_for (room_of table.old)) table.old answer.old
         result connection.new buffer.new table.new answer.new }
 {
     let kept = connection_in(connection);
@@ -171,7 +165,7 @@ fn fed_reply(
     protocols: &[u16],
     algorithms: &[u16],
 ) -> u64
-    ensures { Feeds reply_read reply_given connection.old buffer.old (record { piece = piece.entry.now; closed = closed }) (offering protocols.now algorithms.now (room_of table.old)) table.old answer.old
+    ensures { Feeds reply_read reply_given connection.old buffer.old (record { piece = piece.now; closed = closed }) (offering protocols.now algorithms.now (room_of table.old)) table.old answer.old
         result connection.new buffer.new table.new answer.new }
 {
     let kept = connection_in(connection);

@@ -17,13 +17,7 @@ use record::{DescriptionAt, Part, ProtocolAt};
 const VERSION: u64 = 0x000500;
 
 // A part of a message as it is handed out. Answer, two cells: its start and length, 0 and 0 where it is not inside the message.
-#[unsafe(no_mangle)]
-pub extern "C" fn ntske_part(
-    message: &[u8],
-    start: usize,
-    len: usize,
-    answer: &mut [usize; 2],
-) -> u64
+pub fn ntske_part(message: &[u8], start: usize, len: usize, answer: &mut [usize; 2]) -> u64
     ensures { Gives (cells (part_cells (length message.now) start len)) answer.old result answer.new }
 {
     *answer = handed_out(message.len(), start, len);
@@ -31,13 +25,7 @@ pub extern "C" fn ntske_part(
 }
 
 // The name or cookie at an index of a table that a reader filled, as it is handed out: as a part.
-#[unsafe(no_mangle)]
-pub extern "C" fn ntske_entry(
-    message: &[u8],
-    table: &[u16],
-    index: usize,
-    answer: &mut [usize; 2],
-) -> u64
+pub fn ntske_entry(message: &[u8], table: &[u16], index: usize, answer: &mut [usize; 2]) -> u64
     ensures { Gives (cells (entry_cells (length message.now) table.now index)) answer.old result answer.new }
 {
     if index < table.len() / 2 + 1 {
@@ -53,8 +41,7 @@ pub extern "C" fn ntske_entry(
 }
 
 // The number at an index of a list of numbers, which is a part of the message. Answer, three cells: whether it is there, the number, and 0.
-#[unsafe(no_mangle)]
-pub extern "C" fn ntske_number(
+pub fn ntske_number(
     message: &[u8],
     start: usize,
     len: usize,
@@ -72,8 +59,7 @@ pub extern "C" fn ntske_number(
 }
 
 // The algorithm and its key size at an index of a list of such pairs. Answer, three cells: whether it is there, the algorithm, and the key size.
-#[unsafe(no_mangle)]
-pub extern "C" fn ntske_pair(
+pub fn ntske_pair(
     message: &[u8],
     start: usize,
     len: usize,
@@ -92,8 +78,7 @@ pub extern "C" fn ntske_pair(
 
 // Chooses protocol and algorithm: of the client's lists, as bytes of its message, the first number that the server's own list holds. Answer, two
 // cells: the protocol and the algorithm. Refusals: 9, 13, 14.
-#[unsafe(no_mangle)]
-pub extern "C" fn ntske_choose(
+pub fn ntske_choose(
     protocols: &[u8],
     algorithms: &[u8],
     own_protocols: &[u16],
@@ -114,8 +99,7 @@ pub extern "C" fn ntske_choose(
 }
 
 // Chooses the protocol alone, which a reply without an algorithm names. Answer, one cell. Refusals: 9, 13.
-#[unsafe(no_mangle)]
-pub extern "C" fn ntske_choose_protocol(
+pub fn ntske_choose_protocol(
     protocols: &[u8],
     own_protocols: &[u16],
     answer: &mut [usize; 1],
@@ -133,8 +117,7 @@ pub extern "C" fn ntske_choose_protocol(
 }
 
 // The length of an algorithm's key in bytes. Answer, one cell. Refusals: 5, with the algorithm's number.
-#[unsafe(no_mangle)]
-pub extern "C" fn ntske_key_length(algorithm: u16, answer: &mut [usize; 1]) -> u64
+pub fn ntske_key_length(algorithm: u16, answer: &mut [usize; 1]) -> u64
     ensures { Gives (key_given algorithm (describe algorithm)) answer.old result answer.new }
 {
     let description = AeadAlgorithm(algorithm).description();
@@ -150,8 +133,7 @@ pub extern "C" fn ntske_key_length(algorithm: u16, answer: &mut [usize; 1]) -> u
 }
 
 // The version of the library that was linked.
-#[unsafe(no_mangle)]
-pub extern "C" fn ntske_version() -> u64
+pub fn ntske_version() -> u64
     ensures { result ≡ version }
 {
     VERSION

@@ -1,7 +1,7 @@
 -- What the two profiles say of a kind, so that no other proof opens their table for that: which kinds each knows, and what is asked of those that it does not.
 -- Assumes nothing.
 use mathlib.Core.Path.{◌≡◌, refl, sym, ap, ◌∙◌}
-use mathlib.Core.Bool.{Bool, true, false, cond, not, ◌||◌, or-true, not-not}
+use mathlib.Core.Bool.{Bool, true, false, cond, not, or-true, not-not}
 use mathlib.Core.List.{List}
 use Prim.Native.Nat.{ℕ, zero, suc, ◌≤◌, ◌<◌}
 use native.Mathlib.Omega.{arith}
@@ -10,7 +10,7 @@ use lib.Dec.{leb, eqb}
 use Rattle.utf8.proofs.Tests.{never, on}
 use Rattle.utf8.proofs.Below.{below}
 use Rattle.layout.specs.Table.{row_of, shape_of, is_unknown_shape, is_unknown}
-use Rattle.layout.specs.Profile.{Asks, plain, critical, asks_of, is_final, shape_in, knows, allows, taken_as}
+use Rattle.layout.specs.Profile.{Asks, plain, critical, asks_of, shape_in, knows, allows, taken_as}
 use Rattle.layout.specs.declared.Shape.{Shape}
 use Rattle.layout.specs.declared.Shape.TheVariants.{Skipped, Numbers, Number, Bytes, Name, Pairs, Halves, Unknown}
 use Rattle.layout.specs.declared.Profile.{Profile}

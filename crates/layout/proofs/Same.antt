@@ -7,7 +7,7 @@ use Rattle.layout.proofs.Apart.{count_apart, wrote_same}
 use Rattle.layout.proofs.Part.of.Reads as of
 use Rattle.layout.proofs.Profile.taken.Reads as taken
 use Rattle.layout.proofs.Profile.allows.Reads as allows
-use Rattle.layout.proofs.Profile.is_final.Reads as is_final_lem
+use Rattle.layout.proofs.Profile.is_final.Reads as is_final
 use Rattle.layout.proofs.Layout.write.Reads as write
 use Rattle.layout.proofs.Layout.length.Reads as length
 use Rattle.layout.proofs.put_header.Reads as put_header
@@ -31,5 +31,5 @@ Profile-taken_same κs a r r' e e' p q = p ∙ sym q
 pub Profile-allows_same : (κs : _) (a : _) (r r' : _) (e e' : _) → allows.Learnt κs a r e → allows.Learnt κs a r' e' → r ≡ r'
 Profile-allows_same κs a r r' e e' p q = p ∙ sym q
 
-pub Profile-is_final_same : (κs : _) (a : _) (r r' : _) (e e' : _) → is_final_lem.Learnt κs a r e → is_final_lem.Learnt κs a r' e' → r ≡ r'
+pub Profile-is_final_same : (κs : _) (a : _) (r r' : _) (e e' : _) → is_final.Learnt κs a r e → is_final.Learnt κs a r' e' → r ≡ r'
 Profile-is_final_same κs a r r' e e' p q = p ∙ sym q

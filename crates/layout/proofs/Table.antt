@@ -10,7 +10,7 @@ use borrow.Author.Tests.{leb-true, leb-false, eqb-true, ne_eqb}
 use lib.Dec.{leb, eqb}
 use Rattle.utf8.proofs.Tests.{never, on}
 use Rattle.utf8.proofs.Below.{below, beq→eq}
-use Rattle.layout.specs.Table.{row, row_of, shape_of, bit_named, bit_by, bit_of, is_unknown_shape, is_unknown, is_skipped_shape, is_skipped}
+use Rattle.layout.specs.Table.{row, row_of, shape_of, bit_named, bit_of, is_unknown_shape, is_unknown, is_skipped_shape, is_skipped}
 use Rattle.layout.specs.declared.Shape.TheVariants.{Unknown}
 use Rattle.layout.specs.declared.Bit.TheVariants.{Given}
 use Rattle.layout.specs.declared.Row.{Row}

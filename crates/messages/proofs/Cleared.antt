@@ -26,7 +26,7 @@ use Rattle.plan.specs.declared.NameLength.TheVariants as name
 use Rattle.plan.specs.declared.Port.{Port}
 use Rattle.plan.specs.declared.Port.TheVariants as port
 use Rattle.messages.specs.declared.Asked.{Asked}
-use Rattle.messages.specs.Messages.{record_with, cell_bytes, if_asked, end_record, message_of, too_long, bodies_of, server_record, port_record, reply_records, reply_checked, no_protocol_records, no_algorithm_records, error_records, support_length, support_checked, request_records, all_utf8, request_length, request_checked}
+use Rattle.messages.specs.Messages.{record_with, cell_bytes, if_asked, end_record, message_of, too_long, server_record, port_record, reply_records, reply_checked, no_protocol_records, no_algorithm_records, error_records, support_length, support_checked, request_records, all_utf8, request_length, request_checked}
 use Rattle.messages.proofs.Records.{length_written}
 
 never : {A : Type 0} {n k : ℕ} {b : Beside} → refused k b ≡ bytes n → A

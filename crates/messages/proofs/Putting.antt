@@ -8,7 +8,7 @@ use native.Mathlib.Omega.{arith}
 use borrow.Rule.Slice.PartMut.{mid_of, put_mid}
 use lib.Dec.{ltb}
 use borrow.Author.Tests.{lt-ltb, le-ltb, ltb-true, ltb-false}
-use lib.ListN.{length, take, drop, get_or, length-append, length-drop}
+use lib.ListN.{length, take, drop, get_or, length-drop}
 use lib.Seq.{length-take-le, take-suc, take_all}
 use Rattle.wire.specs.Over.{bytes_of, Put, Tried}
 use Rattle.wire.proofs.Over.{length_over, over_none, put_as, put_then, tried_not, tried_put, try_then}

@@ -11,7 +11,7 @@ use Rattle.negotiation.specs.declared.Choice.TheVariants.{Chosen, Refused}
 use Rattle.negotiation.specs.declared.ProtocolChoice.{ProtocolChoice}
 use Rattle.negotiation.specs.declared.ProtocolChoice.TheVariants as protocol
 use Rattle.negotiation.proofs.choose.Reads as choose
-use Rattle.negotiation.proofs.choose_protocol.Reads as choose_protocol_lem
+use Rattle.negotiation.proofs.choose_protocol.Reads as choose_protocol
 use Rattle.negotiation.proofs.has.Reads as has
 
 -- what is told of an answer tells any two answers apart
@@ -39,7 +39,7 @@ protocol_apart (protocol.Refused c) (protocol.Refused d) e =
     let b : beside_of c ≡ beside_of d = cc in
     ap protocol.Refused (error_apart c d n b)
 
-pub choose_protocol_same : (κs : _) (a : _) (r r' : _) (e e' : _) → choose_protocol_lem.Learnt κs a r e → choose_protocol_lem.Learnt κs a r' e' → r ≡ r'
+pub choose_protocol_same : (κs : _) (a : _) (r r' : _) (e e' : _) → choose_protocol.Learnt κs a r e → choose_protocol.Learnt κs a r' e' → r ≡ r'
 choose_protocol_same κs a r r' e e' p q = protocol_apart r r' (p ∙ sym q)
 
 pub has_same : (κs : _) (a : _) (r r' : _) (e e' : _) → has.Learnt κs a r e → has.Learnt κs a r' e' → r ≡ r'

@@ -1,5 +1,5 @@
 -- The choice of a protocol and an algorithm: 01, "Choosing and replying".
-use Rattle.std.specs.Prelude.{ℕ, ◌%◌, List, [], ◌∷◌, Bool, true, false, cond, ◌||◌, length, drop, eqb}
+use Rattle.std.specs.Prelude.{ℕ, ◌%◌, List, [], ◌∷◌, Bool, false, cond, ◌||◌, length, eqb}
 use Rattle.wire.specs.Bytes.{number_at}
 use Rattle.nts.specs.Refusal.{number_of, Beside, nothing, beside_of}
 use Rattle.negotiation.specs.declared.Choice.{Choice}

@@ -7,10 +7,10 @@ use Rattle.nts.specs.Refusal.{told_refusal}
 use Rattle.nts.proofs.Apart.{refusal_apart}
 use Rattle.request.specs.declared.Answer as request_answer
 use Rattle.request.specs.declared.Answer.TheVariants as request
-use Rattle.request.proofs.Apart as request_told_lem
+use Rattle.request.proofs.Apart as request_told
 use Rattle.reply.specs.declared.Answer as reply_answer
 use Rattle.reply.specs.declared.Answer.TheVariants as reply
-use Rattle.reply.proofs.Apart as reply_told_lem
+use Rattle.reply.proofs.Apart as reply_told
 use Rattle.pieces.specs.Pieces.{Line, nothing_yet, says, told_state, told_connection}
 use Rattle.pieces.specs.Reads.{told_request, told_reply}
 use Rattle.pieces.specs.declared.Connection.{Connection}
@@ -60,11 +60,11 @@ asked_apart asked.Waiting asked.Waiting e = refl
 asked_apart asked.Waiting (asked.Accepted w) e = never e
 asked_apart asked.Waiting (asked.Refused s) e = never e
 asked_apart (asked.Accepted q) asked.Waiting e = never_2 e
-asked_apart (asked.Accepted q) (asked.Accepted w) e = ap asked_by (request_told_lem.answer_apart (request.Accepted q) (request.Accepted w) (said e))
-asked_apart (asked.Accepted q) (asked.Refused s) e = ap asked_by (request_told_lem.answer_apart (request.Accepted q) (request.Refused s) (said e))
+asked_apart (asked.Accepted q) (asked.Accepted w) e = ap asked_by (request_told.answer_apart (request.Accepted q) (request.Accepted w) (said e))
+asked_apart (asked.Accepted q) (asked.Refused s) e = ap asked_by (request_told.answer_apart (request.Accepted q) (request.Refused s) (said e))
 asked_apart (asked.Refused r) asked.Waiting e = never_2 e
-asked_apart (asked.Refused r) (asked.Accepted w) e = ap asked_by (request_told_lem.answer_apart (request.Refused r) (request.Accepted w) (said e))
-asked_apart (asked.Refused r) (asked.Refused s) e = ap asked_by (request_told_lem.answer_apart (request.Refused r) (request.Refused s) (said e))
+asked_apart (asked.Refused r) (asked.Accepted w) e = ap asked_by (request_told.answer_apart (request.Refused r) (request.Accepted w) (said e))
+asked_apart (asked.Refused r) (asked.Refused s) e = ap asked_by (request_told.answer_apart (request.Refused r) (request.Refused s) (said e))
 
 replied_by : reply_answer.Answer → ReplyAnswer
 replied_by (reply.Accepted x) = replied.Accepted x
@@ -76,8 +76,8 @@ replied_apart replied.Waiting replied.Waiting e = refl
 replied_apart replied.Waiting (replied.Accepted w) e = never e
 replied_apart replied.Waiting (replied.Refused s) e = never e
 replied_apart (replied.Accepted q) replied.Waiting e = never_2 e
-replied_apart (replied.Accepted q) (replied.Accepted w) e = ap replied_by (reply_told_lem.answer_apart (reply.Accepted q) (reply.Accepted w) (said e))
-replied_apart (replied.Accepted q) (replied.Refused s) e = ap replied_by (reply_told_lem.answer_apart (reply.Accepted q) (reply.Refused s) (said e))
+replied_apart (replied.Accepted q) (replied.Accepted w) e = ap replied_by (reply_told.answer_apart (reply.Accepted q) (reply.Accepted w) (said e))
+replied_apart (replied.Accepted q) (replied.Refused s) e = ap replied_by (reply_told.answer_apart (reply.Accepted q) (reply.Refused s) (said e))
 replied_apart (replied.Refused r) replied.Waiting e = never_2 e
-replied_apart (replied.Refused r) (replied.Accepted w) e = ap replied_by (reply_told_lem.answer_apart (reply.Refused r) (reply.Accepted w) (said e))
-replied_apart (replied.Refused r) (replied.Refused s) e = ap replied_by (reply_told_lem.answer_apart (reply.Refused r) (reply.Refused s) (said e))
+replied_apart (replied.Refused r) (replied.Accepted w) e = ap replied_by (reply_told.answer_apart (reply.Refused r) (reply.Accepted w) (said e))
+replied_apart (replied.Refused r) (replied.Refused s) e = ap replied_by (reply_told.answer_apart (reply.Refused r) (reply.Refused s) (said e))

@@ -16,7 +16,7 @@ use Rattle.walk.specs.Walk.{Reader}
 use Rattle.walk.specs.Judge as judge
 use Rattle.walk.specs.Judge.{Terms, room_for, read_by}
 use Rattle.layout.specs.declared.Profile.{Profile}
-use Rattle.walk.specs.Rules.{Rules, reader_of}
+use Rattle.walk.specs.Rules.{reader_of}
 use Rattle.pieces.specs.Pieces.{Standing, accepted, refused, Line, broken, Brought, joined, fitting, comes, Read, Fed, none, answers, refused_at, answer_after, first_answer, again, by_standing, answer_of, is_pending, standing_by, line_after, buffer_after, filled_by, table_after, Says, nothing_yet, says, says_of, held, Hands, told_state, told_connection}
 use Rattle.pieces.specs.Pieces as pieces
 use Rattle.pieces.specs.Code.{IsPending, carried_by, told_how, told_came, Comes, rules_of}

@@ -11,7 +11,7 @@ use lib.ListN.{length, take, drop, length-append, length-drop, take-append-drop}
 use lib.Seq.{drop-drop, drop-append-le, length-take-le}
 use lib.Dec.{leb}
 use borrow.Author.Tests.{leb-true, le-leb, lt-leb}
-use Rattle.record.specs.Record.{kind, size}
+use Rattle.record.specs.Record.{size}
 use Rattle.walk.specs.Walk.{Reader, Sighting, Step, stops, goes, step}
 use Rattle.walk.specs.Message.{Whole}
 use Rattle.walk.specs.Shown.{slot_of}

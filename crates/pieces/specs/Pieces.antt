@@ -7,7 +7,7 @@ use Rattle.walk.specs.Walk.{Reader}
 use Rattle.walk.specs.Judge as judge
 use Rattle.walk.specs.Judge.{Terms, room_for, Judge, read_by}
 use Rattle.layout.specs.declared.Profile.{Profile}
-use Rattle.walk.specs.Met.{Passing, halts, on, passing, ends}
+use Rattle.walk.specs.Met.{halts, on, passing, ends}
 use Rattle.pieces.specs.declared.Connection.{Connection}
 use Rattle.pieces.specs.declared.State.{State}
 use Rattle.pieces.specs.declared.State.TheVariants as state

@@ -13,7 +13,7 @@ use Rattle.wire.specs.Bytes.{number_at, part_at}
 use Rattle.wire.proofs.Bytes.{number_drop, number_take, length_part}
 use Rattle.plan.specs.Tray.{Fields, broken, fields, before, fields_from, fields_in, bytes_in}
 use Rattle.plan.proofs.Walking.{skip}
-use Rattle.plan.proofs.Fields.{from_long, Held, held}
+use Rattle.plan.proofs.Fields.{from_long, held}
 
 pub bytes_append : (a b : List (List ℕ)) → bytes_in (a ++ b) ≡ bytes_in a + bytes_in b
 bytes_append [] b = omega arith

@@ -11,7 +11,7 @@ use Rattle.planning.proofs.ntske_plan_clear_name_length.Reads as plan_clear_name
 use Rattle.planning.proofs.ntske_plan_set_keep_alive.Reads as plan_set_keep_alive
 use Rattle.planning.proofs.ntske_plan_clear_keep_alive.Reads as plan_clear_keep_alive
 use Rattle.planning.proofs.ntske_plan_append.Reads as plan_append
-use Rattle.planning.proofs.ntske_plan_length.Reads as plan_length_lem
+use Rattle.planning.proofs.ntske_plan_length.Reads as plan_length
 use Rattle.planning.proofs.ntske_write_reply.Reads as write_reply
 
 pub ntske_plan_new_same : (κs : _) (a : _) (r r' : _) (e e' : _) → plan_new.Learnt κs a r e → plan_new.Learnt κs a r' e' → (r ≡ r') × (e.1.1.0.now ≡ e'.1.1.0.now)
@@ -38,7 +38,7 @@ ntske_plan_clear_keep_alive_same κs a r r' e e' p q = gives_same p q
 pub ntske_plan_append_same : (κs : _) (a : _) (r r' : _) (e e' : _) → plan_append.Learnt κs a r e → plan_append.Learnt κs a r' e' → (r ≡ r') × (e.0.now ≡ e'.0.now) × (e.1.1.0.now ≡ e'.1.1.0.now)
 ntske_plan_append_same κs a r r' e e' p q = let g = gives_same p.gives q.gives in (g.0, g.1, p.left ∙ sym q.left)
 
-pub ntske_plan_length_same : (κs : _) (a : _) (r r' : _) (e e' : _) → plan_length_lem.Learnt κs a r e → plan_length_lem.Learnt κs a r' e' → (r ≡ r') × (e.1.1.0.now ≡ e'.1.1.0.now)
+pub ntske_plan_length_same : (κs : _) (a : _) (r r' : _) (e e' : _) → plan_length.Learnt κs a r e → plan_length.Learnt κs a r' e' → (r ≡ r') × (e.1.1.0.now ≡ e'.1.1.0.now)
 ntske_plan_length_same κs a r r' e e' p q = gives_same p q
 
 pub ntske_write_reply_same : (κs : _) (a : _) (r r' : _) (e e' : _) → write_reply.Learnt κs a r e → write_reply.Learnt κs a r' e' → (r ≡ r') × (e.1.1.1.0.now ≡ e'.1.1.1.0.now) × (e.1.1.1.1.0.now ≡ e'.1.1.1.1.0.now)

@@ -33,8 +33,7 @@ enum Change {
 }
 
 // Starts a plan.
-#[unsafe(no_mangle)]
-pub extern "C" fn ntske_plan_new(protocol: u16, algorithm: u16, plan: &mut [usize; 8]) -> u64
+pub fn ntske_plan_new(protocol: u16, algorithm: u16, plan: &mut [usize; 8]) -> u64
     ensures { Gives (cells (plan_cells (plans.started (record { 0 = protocol }) (record { 0 = algorithm })))) plan.old result plan.new }
 {
     *plan = plan_cells(Plan::new(NextProtocol(protocol), AeadAlgorithm(algorithm)));
@@ -42,43 +41,37 @@ pub extern "C" fn ntske_plan_new(protocol: u16, algorithm: u16, plan: &mut [usiz
 }
 
 // Set and clear: 9 for cells that hold no plan.
-#[unsafe(no_mangle)]
-pub extern "C" fn ntske_plan_set_port(plan: &mut [usize; 8], port: u16) -> u64
+pub fn ntske_plan_set_port(plan: &mut [usize; 8], port: u16) -> u64
     ensures { Gives (changed (λ x. plans.with_port x (ports.Number port)) (plan_in plan.old)) plan.old result plan.new }
 {
     alter(plan, Change::SetPort(port))
 }
 
-#[unsafe(no_mangle)]
-pub extern "C" fn ntske_plan_clear_port(plan: &mut [usize; 8]) -> u64
+pub fn ntske_plan_clear_port(plan: &mut [usize; 8]) -> u64
     ensures { Gives (changed (λ x. plans.with_port x ports.None) (plan_in plan.old)) plan.old result plan.new }
 {
     alter(plan, Change::ClearPort)
 }
 
-#[unsafe(no_mangle)]
-pub extern "C" fn ntske_plan_set_name_length(plan: &mut [usize; 8], length: u16) -> u64
+pub fn ntske_plan_set_name_length(plan: &mut [usize; 8], length: u16) -> u64
     ensures { Gives (changed (λ x. plans.with_name x (names.Bytes length)) (plan_in plan.old)) plan.old result plan.new }
 {
     alter(plan, Change::SetNameLength(length))
 }
 
-#[unsafe(no_mangle)]
-pub extern "C" fn ntske_plan_clear_name_length(plan: &mut [usize; 8]) -> u64
+pub fn ntske_plan_clear_name_length(plan: &mut [usize; 8]) -> u64
     ensures { Gives (changed (λ x. plans.with_name x names.None) (plan_in plan.old)) plan.old result plan.new }
 {
     alter(plan, Change::ClearNameLength)
 }
 
-#[unsafe(no_mangle)]
-pub extern "C" fn ntske_plan_set_keep_alive(plan: &mut [usize; 8]) -> u64
+pub fn ntske_plan_set_keep_alive(plan: &mut [usize; 8]) -> u64
     ensures { Gives (changed (λ x. plans.with_keep_alive x true) (plan_in plan.old)) plan.old result plan.new }
 {
     alter(plan, Change::SetKeepAlive)
 }
 
-#[unsafe(no_mangle)]
-pub extern "C" fn ntske_plan_clear_keep_alive(plan: &mut [usize; 8]) -> u64
+pub fn ntske_plan_clear_keep_alive(plan: &mut [usize; 8]) -> u64
     ensures { Gives (changed (λ x. plans.with_keep_alive x false) (plan_in plan.old)) plan.old result plan.new }
 {
     alter(plan, Change::ClearKeepAlive)
@@ -86,8 +79,7 @@ pub extern "C" fn ntske_plan_clear_keep_alive(plan: &mut [usize; 8]) -> u64
 
 // Appends a cookie to the tray: 9 for cells that hold no plan or a broken tray, then 8, 7 for the ninth, 10 for no room. Only the bytes of the field that
 // is added change.
-#[unsafe(no_mangle)]
-pub extern "C" fn ntske_plan_append(plan: &mut [usize; 8], cookie: &[u8], tray: &mut [u8]) -> u64
+pub fn ntske_plan_append(plan: &mut [usize; 8], cookie: &[u8], tray: &mut [u8]) -> u64
     ensures { AppendsTo plan.old cookie.now tray.old result plan.new tray.new }
 {
     let held = plan_in(plan);
@@ -105,8 +97,7 @@ pub extern "C" fn ntske_plan_append(plan: &mut [usize; 8], cookie: &[u8], tray: 
 }
 
 // The length of the reply that a plan is for: 9 for cells that hold no plan and for a broken tray.
-#[unsafe(no_mangle)]
-pub extern "C" fn ntske_plan_length(plan: &[usize; 8], tray: &[u8], length: &mut [usize; 1]) -> u64
+pub fn ntske_plan_length(plan: &[usize; 8], tray: &[u8], length: &mut [usize; 1]) -> u64
     ensures { Gives (counted (planned_length (plan_in plan.now) tray.now)) length.old result length.new }
 {
     let held = plan_in(plan);
@@ -119,8 +110,7 @@ pub extern "C" fn ntske_plan_length(plan: &[usize; 8], tray: &[u8], length: &mut
 
 // Writes the reply that a plan is for, with the server's name: 9 for cells that hold no plan, a broken tray, or a name of another length or that is not
 // UTF-8, then 15 for no cookie, then 10.
-#[unsafe(no_mangle)]
-pub extern "C" fn ntske_write_reply(
+pub fn ntske_write_reply(
     plan: &[usize; 8],
     tray: &[u8],
     server: &[u8],

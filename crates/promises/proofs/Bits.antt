@@ -72,10 +72,10 @@ pub record Named (k : ℕ) (r : Bit) : Type 1 where
   pub a : _
   pub e : _
   pub met : bit_named_lem.Learnt κs a r e
-  pub of_kind_lem : a.0 ≡ k
+  pub of_kind : a.0 ≡ k
 
 looked : (P : Profile) (m : List ℕ) (at : ℕ) (r : Looked) → LookedAt P m at r → told_looked r ≡ look_at (shape_in P) m at
-looked P m at r c = rw (← c.of-profile, ← c.of-message, ← c.of-place) c.met
+looked P m at r c = rw (← c.of_profile, ← c.of_message, ← c.of_place) c.met
 
 -- ---- "The record's answer is to carry the bit as received, for every kind."
 
@@ -93,7 +93,7 @@ module _ (m : List ℕ) (at : ℕ) (z : Reading) (c : ParsedAt m at (Read z)) wh
 -- a cursor's read and any call of parse at its place answer the same, so what is said here and in Demand2.antt of the one's record is said of the other's
 pub cursor_parses : (m : List ℕ) (at : ℕ) (r r' : Parsed) → ReadAt m at r → ParsedAt m at r' → r ≡ r'
 cursor_parses m at r r' c d =
-    let e : told_parsed r ≡ read_at m at = rw (← c.of-message, ← c.of-place) c.met in
+    let e : told_parsed r ≡ read_at m at = rw (← c.of_message, ← c.of_place) c.met in
     parsed_apart r r' (e ∙ sym (parsed m at r' d))
 
 -- ---- "the listing uses it"
@@ -188,4 +188,4 @@ listing_bit m n l₁ l₂ x q r c =
 pub named_written : (x : NtsRecord) (s o : List ℕ) (n : ℕ) (o' : List ℕ) → Serialized x s o (Bytes n) o' → (b : Bit) → Named (kind_of_record x) b → critical o' ≡ bit_by b (given_bit x)
 unfolding bit_of
 named_written x s o n o' c b d =
-    serialize_bit x s o n o' c ∙ ap (λ (q : Bit). bit_by q (given_bit x)) (sym (d.met ∙ ap bit_named d.of_kind_lem))
+    serialize_bit x s o n o' c ∙ ap (λ (q : Bit). bit_by q (given_bit x)) (sym (d.met ∙ ap bit_named d.of_kind))

@@ -11,7 +11,7 @@ use Rattle.walk.specs.Judge as judge
 use Rattle.walk.specs.Judge.{Terms}
 use Rattle.walk.specs.Walk.{Reader}
 use Rattle.walk.specs.Met.{ends}
-use Rattle.pieces.specs.Pieces.{Line, Standing, pending, accepted, refused, Brought, broken, inside, full, joined, fitting, Going, waits, decides, going, How, waiting, no_room, followed, decided, otherwise, Came, came_to, is_decided, how_after, gathers, after_end, comes, begins_at, Read, Fed, none, answers, refused_at, answer_after, first_answer, again, by_standing, answer_of, nothing_yet, says_of}
+use Rattle.pieces.specs.Pieces.{Line, Standing, pending, accepted, refused, Brought, broken, inside, full, joined, fitting, Going, waits, decides, going, How, waiting, no_room, followed, decided, otherwise, Came, came_to, is_decided, how_after, gathers, after_end, comes, begins_at, Read, answers, refused_at, answer_after, first_answer, again, by_standing, answer_of, nothing_yet, says_of}
 
 no_wait : (w : How) → w ≡ no_room → w ≡ waiting → ⊥
 no_wait w p q = let z : ◌≡◌ {A = ℕ} 0 1 = cc in omega arith

@@ -10,7 +10,7 @@ use lib.Seq.{drop-append-le, length-take-le, take_all, take-take}
 use lib.Dec.{leb, ltb, eqb}
 use borrow.Author.Tests.{ltb-true, ltb-false, lt-ltb, le-ltb, leb-true, leb-false, eq-eqb, ne_eqb}
 use Rattle.record.specs.Record.{size}
-use Rattle.walk.specs.Walk.{Reader, Sighting, Outcome, stopped, ended, walk, walked, behind}
+use Rattle.walk.specs.Walk.{Reader, Sighting, Outcome, stopped, ended, walk}
 use Rattle.walk.specs.Met.{ends}
 use Rattle.walk.specs.Found.{place_of}
 use Rattle.walk.proofs.Passing.{reached}

@@ -3,11 +3,11 @@
 use mathlib.Core.Path.{◌≡◌, refl, sym, ap, ◌∙◌}
 use mathlib.Core.List.{List, [], ◌∷◌, ◌++◌, map}
 use mathlib.Core.Bool.{Bool, true, false, cond, not, true≢false}
-use Prim.Native.Nat.{ℕ, zero, suc, ◌+◌, ◌*◌, ◌/◌, ◌%◌, ◌<◌, ◌≤◌}
+use Prim.Native.Nat.{ℕ, zero, suc, ◌+◌, ◌/◌, ◌%◌, ◌<◌, ◌≤◌}
 use native.Mathlib.Omega.{arith}
 use lib.ListN.{length, take}
 use lib.Dec.{ltb, eqb}
-use borrow.Author.Tests.{eqb-true, eqb-false, eq-eqb, ne_eqb, ltb-true, ltb-false}
+use borrow.Author.Tests.{eqb-true, eqb-false, ne_eqb, ltb-true, ltb-false}
 use Rattle.nts.specs.Refusal.{Beside, nothing, code, protocol, algorithm}
 use Rattle.walk.specs.Walk.{Sighting}
 use Rattle.walk.specs.Judge.{of_kind}
@@ -15,7 +15,7 @@ use Rattle.layout.specs.Profile.{shape_in, knows}
 use Rattle.layout.specs.declared.Profile.TheVariants.{Usual}
 use Rattle.layout.proofs.Profiles.{eleven_unknown, knows_below}
 use Rattle.walk.specs.Shown.{Mark, shown, slot_of, counted}
-use Rattle.walk.specs.Found.{seen_of, entry_in}
+use Rattle.walk.specs.Found.{seen_of}
 use Rattle.walk.specs.Finding.{cells_from}
 use Rattle.walk.specs.declared.Seen.{Seen}
 use Rattle.walk.proofs.Looking.{slot_below}

@@ -48,7 +48,7 @@ use Rattle.record.proofs.NtsRecord.parse.Reads as record_parse
 use Rattle.record.proofs.Cursor.read.Reads as record_read
 use Rattle.record.proofs.look.Reads as record_look
 use Rattle.record.proofs.NtsRecord.serialize.Reads as record_serialize
-use Rattle.record.proofs.NtsRecord.length.Reads as record_length_lem
+use Rattle.record.proofs.NtsRecord.length.Reads as record_length
 use Rattle.layout.proofs.Layout.write.Reads as layout_write
 use Rattle.layout.proofs.Layout.length.Reads as layout_length
 use Rattle.walk.proofs.walk.Reads as walk_walk
@@ -66,7 +66,7 @@ use Rattle.pieces.proofs.InPlace as pieces_hand_over
 use Rattle.negotiation.proofs.choose.Reads as negotiation_choose
 use Rattle.negotiation.proofs.choose_protocol.Reads as negotiation_choose_protocol
 use Rattle.plan.proofs.Plan.append.Reads as plan_append
-use Rattle.plan.proofs.Plan.length.Reads as plan_length_lem
+use Rattle.plan.proofs.Plan.length.Reads as plan_length
 use Rattle.plan.proofs.append_denied.Reads as plan_append_denied
 use Rattle.declining.proofs.write_no_protocol.Reads as declining_write_no_protocol
 use Rattle.declining.proofs.write_no_algorithm.Reads as declining_write_no_algorithm
@@ -98,7 +98,7 @@ record_look_refuses κs a r e p y h = (look_exactly a.0).only (a.1.0.now, a.1.1.
 pub record_serialize_refuses : (κs : _) (a : _) (r : _) (e : _) → record_serialize.Learnt κs a r e → (x : NtsError) → r ≡ count.Refused x → (e.1.1.0.now ≡ a.1.1.0.now) × In (number_of x) writer_numbers
 record_serialize_refuses κs a r e p x h = wrote_refuses writer_numbers (serialize_exactly.only ((a.0, a.1.0.now), length a.1.1.0.now)) p x h
 
-pub record_length_refuses : (κs : _) (a : _) (r : _) (e : _) → record_length_lem.Learnt κs a r e → (x : NtsError) → r ≡ count.Refused x → In (number_of x) length_numbers
+pub record_length_refuses : (κs : _) (a : _) (r : _) (e : _) → record_length.Learnt κs a r e → (x : NtsError) → r ≡ count.Refused x → In (number_of x) length_numbers
 record_length_refuses κs a r e p x h = count_refuses length_numbers (length_exactly.only (a.0, a.1.0.now)) p x h
 
 pub layout_write_refuses : (κs : _) (a : _) (r : _) (e : _) → layout_write.Learnt κs a r e → (x : NtsError) → r ≡ count.Refused x → (e.1.1.0.now ≡ a.1.1.0.now) × In (number_of x) writer_numbers
@@ -187,7 +187,7 @@ pub plan_append_refuses : (κs : _) (a : _) (r : _) (e : _) → plan_append.Lear
 plan_append_refuses κs a r e p x h =
     append_refuses append_numbers (append_exactly.only (record { plan = a.0; cookie = a.1.0.now; tray = a.1.1.0.now })) p x h
 
-pub plan_length_refuses : (κs : _) (a : _) (r : _) (e : _) → plan_length_lem.Learnt κs a r e → (x : NtsError) → r ≡ count.Refused x → In (number_of x) plan_numbers
+pub plan_length_refuses : (κs : _) (a : _) (r : _) (e : _) → plan_length.Learnt κs a r e → (x : NtsError) → r ≡ count.Refused x → In (number_of x) plan_numbers
 plan_length_refuses κs a r e p x h = count_refuses plan_numbers (plan_length_exactly.only (a.0, a.1.0.now)) p x h
 
 pub plan_append_denied_refuses : (κs : _) (a : _) (r : _) (e : _) → plan_append_denied.Learnt κs a r e → (x : NtsError) → r ≡ count.Refused x → (e.1.0.now ≡ a.1.0.now) × In (number_of x) writer_numbers

@@ -139,13 +139,13 @@ pub record ParsedAt (m : List ℕ) (at : ℕ) (r : Parsed) : Type 1 where
 
 wrote : (x : NtsRecord) (s o : List ℕ) (r : ByteCount) (o' : List ℕ) → Serialized x s o r o'
     → Wrote (written (layout_of x) s (length o)) (record_bytes (layout_of x) s) o r o'
-wrote x s o r o' c = rw (← c.of-record, ← c.of-source, ← c.of_output, ← c.of-exit) c.met
+wrote x s o r o' c = rw (← c.of_record, ← c.of_source, ← c.of_output, ← c.of_exit) c.met
 
 counted : (x : NtsRecord) (s : List ℕ) (r : ByteCount) → Measured x s r → told_count r ≡ measured (layout_of x) s
-counted x s r c = rw (← c.of-record, ← c.of-source) c.met
+counted x s r c = rw (← c.of_record, ← c.of_source) c.met
 
 pub parsed : (m : List ℕ) (at : ℕ) (r : Parsed) → ParsedAt m at r → told_parsed r ≡ read_at m at
-parsed m at r c = rw (← c.of-message, ← c.of-place) c.met
+parsed m at r c = rw (← c.of_message, ← c.of_place) c.met
 
 -- an answer that tells of a record is one
 pub read_answer : (r : Parsed) (y : Seen) (bit : Bool) (next : ℕ) → told_parsed r ≡ read y bit next

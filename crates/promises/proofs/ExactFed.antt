@@ -2,13 +2,11 @@
 -- whole message in one piece, with the close behind it and a buffer as long, is read as the whole-message reader reads it; with 9; and with 16.
 -- Assumes nothing.
 use mathlib.Core.Path.{◌≡◌, refl, sym, ap, ◌∙◌}
-use mathlib.Core.List.{List, [], ◌∷◌, ◌++◌}
+use mathlib.Core.List.{List, [], ◌∷◌}
 use mathlib.Core.Bool.{Bool, true, false, cond}
-use Prim.Native.Nat.{ℕ, ◌≤◌}
+use Prim.Native.Nat.{ℕ}
 use native.Mathlib.Omega.{arith}
-use lib.ListN.{length, take, drop, length-take}
-use Rattle.record.specs.Record.{kind_of, critical_of, kind, critical, size}
-use Rattle.nts.specs.Refusal.{Refused}
+use lib.ListN.{length, take, length-take}
 use Rattle.walk.specs.Judge as judge
 use Rattle.walk.specs.Judge.{Terms, room_for, read_by}
 use Rattle.layout.specs.Profile.{is_final}
@@ -20,18 +18,18 @@ use Rattle.request.proofs.Order.{room_alone}
 use Rattle.request.proofs.Numbered.{request_numbered}
 use Rattle.reply.specs.Reply as replies
 use Rattle.reply.proofs.Numbered.{reply_numbered}
-use Rattle.pieces.specs.Pieces.{Line, started, pending, broken, Brought, joined, inside, fitting, full, whole, going, otherwise, How, waiting, no_room, followed, decided, gathers, how_after, after_end, comes, Read, Fed, none, answers, refused_at, answer_after, first_answer, answer_of, line_after, buffer_after, table_after, says_of, held}
+use Rattle.pieces.specs.Pieces.{started, broken, Brought, joined, inside, fitting, full, whole, going, otherwise, How, waiting, no_room, followed, decided, gathers, after_end, comes, Read, Fed, none, answers, refused_at, answer_after, first_answer, answer_of, line_after, buffer_after, table_after, says_of, held}
 use Rattle.pieces.specs.Reads.{request_read, reply_read}
 use Rattle.feeding.proofs.Refusing.{refused_by}
 use Rattle.feeding.proofs.Answering.{Numbers, Ends}
-use Rattle.promises.specs.Pieces.{Made, lacks_room, undecided, answer_on}
+use Rattle.promises.specs.Pieces.{Made, undecided, answer_on}
 use Rattle.promises.specs.Numbers as numbers
 use Rattle.promises.specs.Numbers.{In, All, Number, bears, Exactly, of_answer, of_fed, request_numbers, reply_numbers, feed_request_numbers, feed_reply_numbers, ReadReply, Piecewise, line_of}
 use Rattle.promises.proofs.Exact.{request_exactly, reply_exactly}
 use Rattle.promises.proofs.RefusingFed.{cause_in, request_reads, reply_reads, request_ends, reply_ends}
 use Rattle.promises.proofs.Waiting.{waits_start}
 use Rattle.promises.proofs.Coming.{lacks_room_lem}
-use Rattle.promises.proofs.Cutting.{Local, Meets, stops_in, answer_is, answer_of_lem}
+use Rattle.promises.proofs.Cutting.{Local, stops_in, answer_is, answer_of_lem}
 use Rattle.promises.proofs.Locals.{request_local, reply_local}
 
 -- ---- the number that is borne

@@ -43,7 +43,7 @@ use Rattle.feeding.proofs.ntske_close_request.Reads as close_request
 use Rattle.feeding.proofs.ntske_feed_reply.Reads as feed_reply
 use Rattle.feeding.proofs.ntske_close_reply.Reads as close_reply
 use Rattle.handing.proofs.ntske_choose.Reads as choose
-use Rattle.handing.proofs.ntske_choose_protocol.Reads as choose_protocol_lem
+use Rattle.handing.proofs.ntske_choose_protocol.Reads as choose_protocol
 use Rattle.handing.proofs.ntske_key_length.Reads as key_length
 use Rattle.planning.proofs.ntske_plan_set_port.Reads as plan_set_port
 use Rattle.planning.proofs.ntske_plan_clear_port.Reads as plan_clear_port
@@ -52,7 +52,7 @@ use Rattle.planning.proofs.ntske_plan_clear_name_length.Reads as plan_clear_name
 use Rattle.planning.proofs.ntske_plan_set_keep_alive.Reads as plan_set_keep_alive
 use Rattle.planning.proofs.ntske_plan_clear_keep_alive.Reads as plan_clear_keep_alive
 use Rattle.planning.proofs.ntske_plan_append.Reads as plan_append
-use Rattle.planning.proofs.ntske_plan_length.Reads as plan_length_lem
+use Rattle.planning.proofs.ntske_plan_length.Reads as plan_length
 use Rattle.planning.proofs.ntske_write_reply.Reads as write_reply
 use Rattle.writing.proofs.ntske_write_no_protocol.Reads as write_no_protocol
 use Rattle.writing.proofs.ntske_write_no_algorithm.Reads as write_no_algorithm
@@ -60,10 +60,10 @@ use Rattle.writing.proofs.ntske_write_error.Reads as write_error
 use Rattle.writing.proofs.ntske_write_support_reply.Reads as write_support_reply
 use Rattle.writing.proofs.ntske_support_reply_length.Reads as support_reply_length
 use Rattle.writing.proofs.ntske_write_request.Reads as write_request
-use Rattle.writing.proofs.ntske_request_length.Reads as request_length_lem
+use Rattle.writing.proofs.ntske_request_length.Reads as request_length
 use Rattle.writing.proofs.ntske_append_denied.Reads as append_denied
 use Rattle.writing.proofs.ntske_write_record.Reads as write_record
-use Rattle.writing.proofs.ntske_record_length.Reads as record_length_lem
+use Rattle.writing.proofs.ntske_record_length.Reads as record_length
 use Rattle.showing.proofs.ntske_list.Reads as list
 use Rattle.promises.proofs.Refusing.{sure_of}
 use Rattle.promises.proofs.Telling.{record_tells, decide_tells, choice_tells, protocol_tells, key_tells, change_tells, append_tells, plan_length_tells, write_reply_tells, fixed_tells, support_length_tells, write_support_tells, request_length_tells, write_request_tells, deny_tells, record_length_tells, write_record_tells, list_tells}
@@ -100,7 +100,7 @@ pub choose_granted : (κs : _) (a : _) (r : _) (e : _) → choose.Learnt κs a r
     → Gave (choice_given (choices.choose a.0.now a.1.0.now a.1.1.0.now a.1.1.1.0.now)) e.1.1.1.1.0.now
 choose_granted κs a r e p z = gives_granted p (sure_of (choice_tells a.0.now a.1.0.now a.1.1.0.now a.1.1.1.0.now)) z
 
-pub choose_protocol_granted : (κs : _) (a : _) (r : _) (e : _) → choose_protocol_lem.Learnt κs a r e → r ≡ 0
+pub choose_protocol_granted : (κs : _) (a : _) (r : _) (e : _) → choose_protocol.Learnt κs a r e → r ≡ 0
     → Gave (protocol_given (choices.choose_protocol a.0.now a.1.0.now)) e.1.1.0.now
 choose_protocol_granted κs a r e p z = gives_granted p (sure_of (protocol_tells a.0.now a.1.0.now)) z
 
@@ -176,7 +176,7 @@ pub plan_append_granted : (κs : _) (a : _) (r : _) (e : _) → plan_append.Lear
     → Gave (grown_given (appended (plan_in a.0.now) a.1.0.now a.1.1.0.now)) e.0.now
 plan_append_granted κs a r e p z = gives_granted p.gives (sure_of (append_tells a.0.now a.1.0.now a.1.1.0.now)) z
 
-pub plan_length_granted : (κs : _) (a : _) (r : _) (e : _) → plan_length_lem.Learnt κs a r e → r ≡ 0
+pub plan_length_granted : (κs : _) (a : _) (r : _) (e : _) → plan_length.Learnt κs a r e → r ≡ 0
     → Counted (planned_length (plan_in a.0.now) a.1.0.now) e.1.1.0.now
 plan_length_granted κs a r e p z = counted_granted p (sure_of (plan_length_tells a.0.now a.1.0.now)) z
 
@@ -213,7 +213,7 @@ pub write_request_granted : (κs : _) (a : _) (r : _) (e : _) → write_request.
     (message_of (request_records a.0.now a.1.0.now (bodies_of (names_in a.1.1.1.0 a.1.1.0.now)))) a.1.1.1.1.0.now e.1.1.1.1.0.now e.1.1.1.1.1.0.now
 write_request_granted κs a r e p z = writes_granted p (sure_of (write_request_tells a.0.now a.1.0.now a.1.1.0.now a.1.1.1.0 (length a.1.1.1.1.0.now))) z
 
-pub request_length_granted : (κs : _) (a : _) (r : _) (e : _) → request_length_lem.Learnt κs a r e → r ≡ 0
+pub request_length_granted : (κs : _) (a : _) (r : _) (e : _) → request_length.Learnt κs a r e → r ≡ 0
     → Counted (request_checked a.0.now a.1.0.now (names_in a.1.1.1.0 a.1.1.0.now)) e.1.1.1.1.0.now
 request_length_granted κs a r e p z = counted_granted p (sure_of (request_length_tells a.0.now a.1.0.now a.1.1.0.now a.1.1.1.0)) z
 
@@ -226,7 +226,7 @@ pub write_record_granted : (κs : _) (a : _) (r : _) (e : _) → write_record.Le
     (held_bytes (record_in a.0.now) a.1.0.now) a.1.1.0.now e.1.1.0.now e.1.1.1.0.now
 write_record_granted κs a r e p z = writes_granted p (sure_of (write_record_tells a.0.now a.1.0.now (length a.1.1.0.now))) z
 
-pub record_length_granted : (κs : _) (a : _) (r : _) (e : _) → record_length_lem.Learnt κs a r e → r ≡ 0
+pub record_length_granted : (κs : _) (a : _) (r : _) (e : _) → record_length.Learnt κs a r e → r ≡ 0
     → Counted (held_length (record_in a.0.now) a.1.0.now) e.1.1.0.now
 record_length_granted κs a r e p z = counted_granted p (sure_of (record_length_tells a.0.now a.1.0.now)) z
 

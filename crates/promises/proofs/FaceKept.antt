@@ -54,7 +54,7 @@ use Rattle.handing.proofs.ntske_entry.Reads as entry
 use Rattle.handing.proofs.ntske_number.Reads as number
 use Rattle.handing.proofs.ntske_pair.Reads as pair
 use Rattle.handing.proofs.ntske_choose.Reads as choose
-use Rattle.handing.proofs.ntske_choose_protocol.Reads as choose_protocol_lem
+use Rattle.handing.proofs.ntske_choose_protocol.Reads as choose_protocol
 use Rattle.handing.proofs.ntske_key_length.Reads as key_length
 use Rattle.planning.proofs.Kept.{appends_kept}
 use Rattle.planning.proofs.ntske_plan_new.Reads as plan_new
@@ -65,7 +65,7 @@ use Rattle.planning.proofs.ntske_plan_clear_name_length.Reads as plan_clear_name
 use Rattle.planning.proofs.ntske_plan_set_keep_alive.Reads as plan_set_keep_alive
 use Rattle.planning.proofs.ntske_plan_clear_keep_alive.Reads as plan_clear_keep_alive
 use Rattle.planning.proofs.ntske_plan_append.Reads as plan_append
-use Rattle.planning.proofs.ntske_plan_length.Reads as plan_length_lem
+use Rattle.planning.proofs.ntske_plan_length.Reads as plan_length
 use Rattle.planning.proofs.ntske_write_reply.Reads as write_reply
 use Rattle.writing.proofs.Kept.{denies_kept}
 use Rattle.writing.proofs.ntske_write_no_protocol.Reads as write_no_protocol
@@ -74,10 +74,10 @@ use Rattle.writing.proofs.ntske_write_error.Reads as write_error
 use Rattle.writing.proofs.ntske_write_support_reply.Reads as write_support_reply
 use Rattle.writing.proofs.ntske_support_reply_length.Reads as support_reply_length
 use Rattle.writing.proofs.ntske_write_request.Reads as write_request
-use Rattle.writing.proofs.ntske_request_length.Reads as request_length_lem
+use Rattle.writing.proofs.ntske_request_length.Reads as request_length
 use Rattle.writing.proofs.ntske_append_denied.Reads as append_denied
 use Rattle.writing.proofs.ntske_write_record.Reads as write_record
-use Rattle.writing.proofs.ntske_record_length.Reads as record_length_lem
+use Rattle.writing.proofs.ntske_record_length.Reads as record_length
 use Rattle.showing.proofs.ntske_list.Reads as list
 use Rattle.promises.specs.Numbers.{In, of_answer, record_numbers, request_numbers, decide_numbers, reply_numbers, feed_request_numbers, feed_reply_numbers, or_held, choice_numbers, protocol_numbers, key_numbers, plan_numbers, append_numbers, length_numbers, writer_numbers, reply_writer_numbers, room_numbers}
 use Rattle.promises.proofs.Exact.{request_exactly, reply_exactly}
@@ -103,23 +103,23 @@ module _ (P : Profile) (m : List ℕ) (n : ℕ) (table lent : List ℕ) (r : ℕ
       (y.0, y.1, y.2, (request_exactly P).only (record { message = m; limit = n; room = room_of table }) y.0.number (ap of_answer y.1))
 
   -- .. and which it tells whole: the number, the number beside it, and the place. A message is bytes
-  pub request_told_lem : (y : Refused) → request P m n (room_of table) ≡ refused y → ((i : ℕ) → get_or m i 0 < 256)
+  pub request_told : (y : Refused) → request P m n (room_of table) ≡ refused y → ((i : ℕ) → get_or m i 0 < 256)
       → (r % 256 ≡ y.number) × (r / 256 % 256 ≡ sort_of y.beside) × (r / 65536 % 65536 ≡ beside_number y.beside) × (r / 4294967296 ≡ y.place)
-  request_told_lem = told_apart (hosted_request P) c
+  request_told = told_apart (hosted_request P) c
 
 -- ntske_read_reply and ntske_read_reply_strict in the same way
 module _ (P : Profile) (m : List ℕ) (n : ℕ) (ps qs table lent : List ℕ) (r : ℕ) (table' after : List ℕ) (c : ReadsReply P m n ps qs table lent r table' after) where
   pub reply_word : r ≡ 0 → (q : replies.Form Sighting) × (reply_of P m n (offering ps qs (room_of table)) ≡ accepted q)
   reply_word = granted (hosted_reply P) {e = (ps, qs)} c
 
-  pub reply_bears_lem : (r ≡ 0 → ⊥) → (y : Refused) × (reply_of P m n (offering ps qs (room_of table)) ≡ refused y) × (r ≡ word y) × In y.number (reply_numbers P)
-  reply_bears_lem h =
+  pub reply_bears : (r ≡ 0 → ⊥) → (y : Refused) × (reply_of P m n (offering ps qs (room_of table)) ≡ refused y) × (r ≡ word y) × In y.number (reply_numbers P)
+  reply_bears h =
       let y = bears (hosted_reply P) {e = (ps, qs)} c h in
       (y.0, y.1, y.2, (reply_exactly P).only (record { message = m; limit = n; terms = offering ps qs (room_of table) }) y.0.number (ap of_answer y.1))
 
-  pub reply_told_lem : (y : Refused) → reply_of P m n (offering ps qs (room_of table)) ≡ refused y → ((i : ℕ) → get_or m i 0 < 256)
+  pub reply_told : (y : Refused) → reply_of P m n (offering ps qs (room_of table)) ≡ refused y → ((i : ℕ) → get_or m i 0 < 256)
       → (r % 256 ≡ y.number) × (r / 256 % 256 ≡ sort_of y.beside) × (r / 65536 % 65536 ≡ beside_number y.beside) × (r / 4294967296 ≡ y.place)
-  reply_told_lem = told_apart (hosted_reply P) {e = (ps, qs)} c
+  reply_told = told_apart (hosted_reply P) {e = (ps, qs)} c
 
 -- ntske_key_length, where it refuses: 5, the algorithm's number beside it, which has sixteen bits, and no place
 pub key_length_told : (κs : _) (a : _) (r : _) (e : _) → key_length.Learnt κs a r e → a.0 < 65536 → (r ≡ 0 → ⊥)
@@ -229,7 +229,7 @@ ntske_pair_refuses_nothing κs a r e p = p.says
 pub ntske_choose_refuses : (κs : _) (a : _) (r : _) (e : _) → choose.Learnt κs a r e → (r ≡ 0 → ⊥) → (e.1.1.1.1.0.now ≡ a.1.1.1.1.0.now) × In (r % 256) choice_numbers
 ntske_choose_refuses κs a r e p h = given_refuses (choice_tells a.0.now a.1.0.now a.1.1.0.now a.1.1.1.0.now) p h
 
-pub ntske_choose_protocol_refuses : (κs : _) (a : _) (r : _) (e : _) → choose_protocol_lem.Learnt κs a r e → (r ≡ 0 → ⊥) → (e.1.1.0.now ≡ a.1.1.0.now) × In (r % 256) protocol_numbers
+pub ntske_choose_protocol_refuses : (κs : _) (a : _) (r : _) (e : _) → choose_protocol.Learnt κs a r e → (r ≡ 0 → ⊥) → (e.1.1.0.now ≡ a.1.1.0.now) × In (r % 256) protocol_numbers
 ntske_choose_protocol_refuses κs a r e p h = given_refuses (protocol_tells a.0.now a.1.0.now) p h
 
 pub ntske_key_length_refuses : (κs : _) (a : _) (r : _) (e : _) → key_length.Learnt κs a r e → (r ≡ 0 → ⊥) → (e.1.0.now ≡ a.1.0.now) × In (r % 256) key_numbers
@@ -261,7 +261,7 @@ ntske_plan_clear_keep_alive_refuses κs a r e p h = given_refuses (change_tells 
 pub ntske_plan_append_refuses : (κs : _) (a : _) (r : _) (e : _) → plan_append.Learnt κs a r e → (r ≡ 0 → ⊥) → (e.0.now ≡ a.0.now) × (e.1.1.0.now ≡ a.1.1.0.now) × In (r % 256) append_numbers
 ntske_plan_append_refuses κs a r e p h = let k = appends_kept p h in (k.0, k.1, number_of_lem (append_tells a.0.now a.1.0.now a.1.1.0.now) p.gives h)
 
-pub ntske_plan_length_refuses : (κs : _) (a : _) (r : _) (e : _) → plan_length_lem.Learnt κs a r e → (r ≡ 0 → ⊥) → (e.1.1.0.now ≡ a.1.1.0.now) × In (r % 256) plan_numbers
+pub ntske_plan_length_refuses : (κs : _) (a : _) (r : _) (e : _) → plan_length.Learnt κs a r e → (r ≡ 0 → ⊥) → (e.1.1.0.now ≡ a.1.1.0.now) × In (r % 256) plan_numbers
 ntske_plan_length_refuses κs a r e p h = given_refuses (plan_length_tells a.0.now a.1.0.now) p h
 
 pub ntske_write_reply_refuses : (κs : _) (a : _) (r : _) (e : _) → write_reply.Learnt κs a r e → (r ≡ 0 → ⊥) → (e.1.1.1.0.now ≡ a.1.1.1.0.now) × (e.1.1.1.1.0.now ≡ a.1.1.1.1.0.now) × In (r % 256) reply_writer_numbers
@@ -287,7 +287,7 @@ ntske_support_reply_length_refuses κs a r e p h = given_refuses (support_length
 pub ntske_write_request_refuses : (κs : _) (a : _) (r : _) (e : _) → write_request.Learnt κs a r e → (r ≡ 0 → ⊥) → (e.1.1.1.1.0.now ≡ a.1.1.1.1.0.now) × (e.1.1.1.1.1.0.now ≡ a.1.1.1.1.1.0.now) × In (r % 256) writer_numbers
 ntske_write_request_refuses κs a r e p h = writes_refuses (write_request_tells a.0.now a.1.0.now a.1.1.0.now a.1.1.1.0 (length a.1.1.1.1.0.now)) p h
 
-pub ntske_request_length_refuses : (κs : _) (a : _) (r : _) (e : _) → request_length_lem.Learnt κs a r e → (r ≡ 0 → ⊥) → (e.1.1.1.1.0.now ≡ a.1.1.1.1.0.now) × In (r % 256) length_numbers
+pub ntske_request_length_refuses : (κs : _) (a : _) (r : _) (e : _) → request_length.Learnt κs a r e → (r ≡ 0 → ⊥) → (e.1.1.1.1.0.now ≡ a.1.1.1.1.0.now) × In (r % 256) length_numbers
 ntske_request_length_refuses κs a r e p h = given_refuses (request_length_tells a.0.now a.1.0.now a.1.1.0.now a.1.1.1.0) p h
 
 pub ntske_append_denied_refuses : (κs : _) (a : _) (r : _) (e : _) → append_denied.Learnt κs a r e → (r ≡ 0 → ⊥) → (e.1.1.0.now ≡ a.1.1.0.now) × (e.1.0.now ≡ a.1.0.now) × In (r % 256) writer_numbers
@@ -296,7 +296,7 @@ ntske_append_denied_refuses κs a r e p h = let k = denies_kept p h in (k.0, k.1
 pub ntske_write_record_refuses : (κs : _) (a : _) (r : _) (e : _) → write_record.Learnt κs a r e → (r ≡ 0 → ⊥) → (e.1.1.0.now ≡ a.1.1.0.now) × (e.1.1.1.0.now ≡ a.1.1.1.0.now) × In (r % 256) writer_numbers
 ntske_write_record_refuses κs a r e p h = writes_refuses (write_record_tells a.0.now a.1.0.now (length a.1.1.0.now)) p h
 
-pub ntske_record_length_refuses : (κs : _) (a : _) (r : _) (e : _) → record_length_lem.Learnt κs a r e → (r ≡ 0 → ⊥) → (e.1.1.0.now ≡ a.1.1.0.now) × In (r % 256) length_numbers
+pub ntske_record_length_refuses : (κs : _) (a : _) (r : _) (e : _) → record_length.Learnt κs a r e → (r ≡ 0 → ⊥) → (e.1.1.0.now ≡ a.1.1.0.now) × In (r % 256) length_numbers
 ntske_record_length_refuses κs a r e p h = given_refuses (record_length_tells a.0.now a.1.0.now) p h
 
 -- ---- of `showing`: the output and the cell of its count

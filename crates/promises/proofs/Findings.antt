@@ -1,12 +1,11 @@
 -- 02, order 2: the pair of calls gives the reader's answer for every input; 9 from the second exactly for a finding that is not what the first gives; and the counts of a
 -- finding are the listing's lines.
 -- Assumes nothing.
-use mathlib.Core.Path.{◌≡◌, refl, sym, ap, ◌∙◌, subst}
-use mathlib.Core.List.{List, [], ◌∷◌, ◌++◌}
+use mathlib.Core.Path.{◌≡◌, sym, ap, ◌∙◌, subst}
+use mathlib.Core.List.{List, []}
 use mathlib.Core.Bool.{true}
 use Prim.Native.Nat.{ℕ, ◌+◌}
-use native.Mathlib.Omega.{arith}
-use lib.ListN.{length, take}
+use lib.ListN.{take}
 use Rattle.wire.specs.Over.{over}
 use Rattle.wire.proofs.Over.{over_none}
 use Rattle.nts.specs.Refusal.{number_of, told_refusal}

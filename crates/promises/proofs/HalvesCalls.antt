@@ -3,7 +3,7 @@
 -- written, and refuses a reply that names what was not offered with 17 and just that number, and the other replies with their own numbers. The theorems over the definitions: proofs/Halves.antt.
 -- Assumes nothing.
 use mathlib.Core.Path.{◌≡◌, refl, sym, ap, subst, ◌∙◌}
-use mathlib.Core.List.{List, [], ◌++◌}
+use mathlib.Core.List.{List, ◌++◌}
 use mathlib.Core.Bool.{true, false}
 use Prim.Native.Nat.{ℕ, ◌-◌, ◌≤◌}
 use native.Mathlib.Omega.{arith}
@@ -43,7 +43,7 @@ use Rattle.promises.specs.Called.{ParseRequest, ParseReply, request_parse, reply
 use Rattle.promises.proofs.Steady.{Faithful}
 use Rattle.promises.proofs.Handing.{request_faithful}
 use Rattle.promises.proofs.HandingReply.{reply_faithful}
-use Rattle.promises.proofs.Halves.{number_of_lem, server_sent, port_sent, reply_read_lem, unoffered, protocol_unoffered, algorithm_unoffered, reply_unoffered, request_read_lem, no_protocol_read, no_algorithm_read, error_read}
+use Rattle.promises.proofs.Halves.{number_of_lem, server_sent, port_sent, reply_read, unoffered, protocol_unoffered, algorithm_unoffered, reply_unoffered, request_read, no_protocol_read, no_algorithm_read, error_read}
 
 -- ---- calls of the writers: what each function's own contract says
 
@@ -87,7 +87,7 @@ pub record WroteNoAlgorithm (p : NextProtocol) (out : List ℕ) (r : ByteCount) 
   pub a : _
   pub e : _
   pub met : write_no_algorithm.Learnt κs a r e
-  pub of_protocol_lem : a.0 ≡ p
+  pub of_protocol : a.0 ≡ p
   pub of_out : a.1.0.now ≡ out
   pub of_exit : e.1.0.now ≡ after
 
@@ -137,14 +137,14 @@ port_number (port.Number n) = sent n
 
 -- what is in hand of the bodies that a written reply shows
 
-port_of_lem : (y : Port) → map_sent (λ (b : List ℕ). number_at b 0) (port_sent y) ≡ port_number y
-port_of_lem port.None = refl
-port_of_lem (port.Number n) = ap sent (number_of_lem n)
+port_of : (y : Port) → map_sent (λ (b : List ℕ). number_at b 0) (port_sent y) ≡ port_number y
+port_of port.None = refl
+port_of (port.Number n) = ap sent (number_of_lem n)
 
-reply_in_hand_lem : (x : Plan) (server : List ℕ) (l : List (List ℕ))
+reply_in_hand : (x : Plan) (server : List ℕ) (l : List (List ℕ))
     → reply_hand.in_hand (reply.reply (bytes_of x.protocol.0) (bytes_of x.algorithm.0) (server_sent x.name server) (port_sent x.port) x.keep_alive l)
     ≡ reply_hand.reply x.protocol.0 x.algorithm.0 (server_sent x.name server) (port_number x.port) x.keep_alive (length l) l
-reply_in_hand_lem x server l = rw (number_of_lem x.protocol.0, number_of_lem x.algorithm.0, port_of_lem x.port)
+reply_in_hand x server l = rw (number_of_lem x.protocol.0, number_of_lem x.algorithm.0, port_of x.port)
 
 -- the end record is the last four bytes
 at_end : (f : List ℕ) (k : ℕ) → k ≡ length (f ++ end_record) → length f ≡ k - 4
@@ -153,7 +153,7 @@ at_end f k e = omega (arith, e, length-append f end_record)
 
 module _ (x : Plan) (tray server out : List ℕ) (k : ℕ) (after : List ℕ) (w : WroteReply x tray server out (Bytes k) after) where
   wrote_reply : Wrote (fitted (length out) (reply_checked x server (cookies_in x.used tray))) (message_of (reply_records x server (cookies_of x tray))) out (Bytes k) after
-  wrote_reply = rw (← w.of-plan, ← w.of-tray, ← w.of-server, ← w.of-out, ← w.of-exit) w.met
+  wrote_reply = rw (← w.of_plan, ← w.of_tray, ← w.of_server, ← w.of_out, ← w.of_exit) w.met
 
   -- a call of outgoing::write_reply that wrote k bytes left them in the output; and a call of reply::KeyExchangeResponse::parse on them,
   -- whatever follows them, under every limit that is k or more, with a table that has room for the cookies and lists of offers that hold the plan's
@@ -176,8 +176,8 @@ module _ (x : Plan) (tray server out : List ℕ) (k : ℕ) (after : List ℕ) (w
       let s = v.stands (length_reply x server l j.named ∙ ap (reply_length x) e ∙ sym j.long) in (
         s.inside,
         λ t c a p h g op oa.
-            let d = reply_read_lem x server j.utf8 l t (reply_parse.under c).limit (reply_parse.under c).terms some g op oa (omega (arith, s.long)) in
-            subst (reply_parse.Accepts c) (reply_in_hand_lem x server l) (shown_back reply_faithful m after k s t c a p _ d),
+            let d = reply_read x server j.utf8 l t (reply_parse.under c).limit (reply_parse.under c).terms some g op oa (omega (arith, s.long)) in
+            subst (reply_parse.Accepts c) (reply_in_hand x server l) (shown_back reply_faithful m after k s t c a p _ d),
       )
 
   -- where the lists do not hold the plan's protocol, or hold it and not its algorithm, the same call refuses with 17 and just that number, at the place of the end record,
@@ -217,7 +217,7 @@ names_of used tray = bodies_of (names_in used tray)
 
 module _ (protocols algorithms tray : List ℕ) (used : ℕ) (out : List ℕ) (k : ℕ) (after : List ℕ) (w : WroteRequest protocols algorithms tray used out (Bytes k) after) where
   wrote_request : Wrote (fitted (length out) (request_checked protocols algorithms (names_in used tray))) (message_of (request_records protocols algorithms (names_of used tray))) out (Bytes k) after
-  wrote_request = rw (← w.of-protocols, ← w.of-algorithms, ← w.of-tray, ← w.of-used, ← w.of-out, ← w.of-exit) w.met
+  wrote_request = rw (← w.of_protocols, ← w.of_algorithms, ← w.of_tray, ← w.of_used, ← w.of_out, ← w.of_exit) w.met
 
   -- a call of outgoing::write_request that wrote k bytes left them in the output; and a call of request::Request::parse on them, whatever
   -- follows them, under every limit that is k or more, with a table that has room for the names, accepts a key-exchange request, and hands out
@@ -237,7 +237,7 @@ module _ (protocols algorithms tray : List ℕ) (used : ℕ) (out : List ℕ) (k
       let s = v.stands (length_request protocols algorithms l ∙ ap (request_length protocols algorithms) e ∙ sym j.long) in (
         s.inside,
         λ t c a p h g.
-            let d = request_read_lem protocols algorithms l utf8 t (request_parse.under c).limit (request_parse.under c).terms.room g (omega (arith, s.long)) in
+            let d = request_read protocols algorithms l utf8 t (request_parse.under c).limit (request_parse.under c).terms.room g (omega (arith, s.long)) in
             shown_back request_faithful m after k s t c a p _ d,
       )
 
@@ -268,14 +268,14 @@ declined_back i m out after k y w l law =
 pub no_protocol_read_back : (out : List ℕ) (k : ℕ) (after : List ℕ) → WroteNoProtocol out (Bytes k) after
     → RefusedBack k after (record { number = 13; beside = nothing; place = 4 })
 no_protocol_read_back out k after w =
-    declined_back 8 (message_of no_protocol_records) out after k _ (rw (← w.of-out, ← w.of-exit) w.met) length_no_protocol
+    declined_back 8 (message_of no_protocol_records) out after k _ (rw (← w.of_out, ← w.of_exit) w.met) length_no_protocol
     (λ t n x h. no_protocol_read t n x h)
 
 -- what a call of declining::write_no_algorithm wrote, with whatever protocol: with 14 and nothing beside it, at its end record's place
 pub no_algorithm_read_back : (p : NextProtocol) (out : List ℕ) (k : ℕ) (after : List ℕ) → WroteNoAlgorithm p out (Bytes k) after
     → RefusedBack k after (record { number = 14; beside = nothing; place = 10 })
 no_algorithm_read_back p out k after w =
-    declined_back 14 (message_of (no_algorithm_records p.0)) out after k _ (rw (← w.of-protocol, ← w.of-out, ← w.of-exit) w.met)
+    declined_back 14 (message_of (no_algorithm_records p.0)) out after k _ (rw (← w.of_protocol, ← w.of_out, ← w.of_exit) w.met)
     (length_no_algorithm p.0)
     (λ t n x h. no_algorithm_read t n x p.0 h)
 
@@ -283,6 +283,6 @@ no_algorithm_read_back p out k after w =
 pub error_read_back : (c : ErrorCode) (out : List ℕ) (k : ℕ) (after : List ℕ) → WroteError c out (Bytes k) after
     → RefusedBack k after (record { number = 11; beside = code c.0; place = 0 })
 error_read_back c out k after w =
-    declined_back 10 (message_of (error_records c.0)) out after k _ (rw (← w.of_code, ← w.of-out, ← w.of-exit) w.met)
+    declined_back 10 (message_of (error_records c.0)) out after k _ (rw (← w.of_code, ← w.of_out, ← w.of_exit) w.met)
     (length_error c.0)
     (λ t n x h. error_read t n x c.0 h)

@@ -25,7 +25,6 @@ use Rattle.request.specs.declared.Answer.TheVariants.{Accepted}
 use Rattle.request.specs.declared.Answer.TheVariants as answer
 use Rattle.request.specs.Request.{Form, key_exchange, fixed_key, support, map_form, request, first_half, second_half, told_form, told_by, told_request, told_answer, refused_with, names_of, table_after, Reads}
 use Rattle.request.proofs.Order.{shows, reading, InsideForm, accepted_inside}
-use Rattle.promises.specs.Handed as hand
 use Rattle.promises.specs.Handed.{bytes_at, handed_out, in_hand}
 use Rattle.promises.specs.Called.{ParseRequest, answering, request_parse}
 use Rattle.promises.proofs.Steady.{Faithful}

@@ -10,7 +10,6 @@ use Rattle.wire.specs.Over.{over}
 use Rattle.wire.proofs.Over.{over_none}
 use Rattle.nts.specs.Refusal.{Refused, told_refusal}
 use Rattle.nts.specs.declared.Refusal.{Refusal}
-use Rattle.layout.specs.declared.Part.{Part}
 use Rattle.layout.specs.declared.Profile.{Profile}
 use Rattle.walk.specs.Walk.{Sighting}
 use Rattle.walk.specs.Judge.{Terms, body_in, part_of, refused, accepted}
@@ -24,7 +23,6 @@ use Rattle.reply.specs.declared.Answer.TheVariants.{Accepted}
 use Rattle.reply.specs.declared.Answer.TheVariants as answer
 use Rattle.reply.proofs.Order.{shows, reading, InsideSent, InsideForm, accepted_inside}
 use Rattle.promises.specs.Handed.{bytes_at}
-use Rattle.promises.specs.HandedReply as hand
 use Rattle.promises.specs.HandedReply.{handed_out, in_hand}
 use Rattle.promises.specs.Called.{reply_parse}
 use Rattle.promises.proofs.Steady.{Faithful}

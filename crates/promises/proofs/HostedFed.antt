@@ -1,6 +1,6 @@
 -- The numbers of a host's calls that feed a read in pieces: those of the whole-message reader in the profile that the cells hold, 9 and 16, and the number of the refusal that the cells hold.
 -- Assumes nothing.
-use mathlib.Core.Path.{◌≡◌, refl, sym, ◌∙◌}
+use mathlib.Core.Path.{◌≡◌, refl}
 use mathlib.Core.List.{List, ◌∷◌}
 use mathlib.Core.Bool.{Bool, true, false, cond}
 use Prim.Native.Nat.{ℕ, ◌%◌}

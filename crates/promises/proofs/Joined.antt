@@ -3,29 +3,28 @@
 -- Assumes nothing.
 use mathlib.Core.Path.{◌≡◌, refl, sym, ap, ◌∙◌, subst}
 use mathlib.Core.List.{List, [], ◌∷◌, ◌++◌, append_assoc}
-use mathlib.Core.Bool.{Bool, true, false, cond, not, ◌&&◌, ◌||◌, and-false, true≢false}
+use mathlib.Core.Bool.{Bool, true, false, cond, not, ◌&&◌, ◌||◌, and-false}
 use mathlib.Core.Logic.{◌⊎◌, inl, inr}
-use Prim.Native.Nat.{ℕ, zero, suc, ◌+◌, ◌≤◌}
+use Prim.Native.Nat.{ℕ, ◌+◌, ◌≤◌}
 use native.Mathlib.Omega.{arith}
 use lib.ListN.{length, take, drop, length-append, take-append-drop}
 use lib.Seq.{drop_at, length-take-le}
 use lib.Dec.{ltb}
 use borrow.Author.Tests.{le-ltb}
-use Rattle.wire.specs.Over.{over}
 use Rattle.nts.specs.Refusal.{Refused}
 use Rattle.record.specs.Record.{kind, size}
 use Rattle.layout.specs.declared.Profile.{Profile}
 use Rattle.walk.specs.Walk.{Reader, Sighting}
 use Rattle.walk.specs.Judge as judging
 use Rattle.walk.specs.Judge.{Terms, Under, Judge, body_in, read_as, read_by}
-use Rattle.walk.specs.Message.{Whole, Record, End, Each, flat, message, contents}
+use Rattle.walk.specs.Message.{Record, End, Each, flat, message, contents}
 use Rattle.walk.specs.Met.{Passing, halts, on, passing}
 use Rattle.walk.proofs.Passing.{take_over}
-use Rattle.pieces.specs.Pieces.{Line, pending, Brought, Going, whole, going, Read, Fed, none, answers, refused_at, filled_by, Says, nothing_yet, says, says_of, held}
+use Rattle.pieces.specs.Pieces.{Brought, whole, going, Read, Fed, none, answers, refused_at, filled_by, says, says_of, held}
 use Rattle.pieces.proofs.Going.{long_whole, whole_more, size_more, going_halts, going_on}
-use Rattle.promises.specs.Pieces.{decided, lacks_room, lasts, undecided, answer_on, held_on, Made, Feeder, made_by, line_in, joined_in, Told, Run, joined_reader}
+use Rattle.promises.specs.Pieces.{decided, lacks_room, lasts, undecided, answer_on, held_on, Made, Feeder, made_by, joined_in, Told, Run, joined_reader}
 use Rattle.promises.proofs.Steady.{Able, Answering}
-use Rattle.promises.proofs.Coming.{fit_short, is_decides, came_on, came_short, decided_is, decided_more, held_is}
+use Rattle.promises.proofs.Coming.{fit_short, is_decides, came_short, decided_is, decided_more, held_is}
 use Rattle.promises.proofs.Waiting as waiting
 use Rattle.promises.proofs.Cutting.{Local, Meets, stops_in, read_held, however_cut}
 

@@ -5,7 +5,7 @@ use mathlib.Core.Path.{◌≡◌, refl, sym, ap, subst, ◌∙◌}
 use mathlib.Core.List.{List}
 use mathlib.Core.Bool.{false}
 use Prim.Native.Nat.{ℕ}
-use mathlib.Core.Logic.{◌⊎◌, inl, inr}
+use mathlib.Core.Logic.{inl, inr}
 use Rattle.request.specs.Request as request_form
 use Rattle.request.proofs.Order as request_order
 use Rattle.reply.specs.Reply as reply_form
@@ -30,10 +30,10 @@ use Rattle.promises.specs.Handed as requests
 use Rattle.promises.specs.HandedReply as replies
 use Rattle.promises.specs.Demand3.{Demand3}
 use Rattle.promises.specs.Pieces.{HoweverCut, joined_reader}
-use Rattle.promises.specs.Fed.{FeedRequest, FeedReply, HandCall, HandOverCall, Over, handed, handed_over, made_over, said_request, said_reply, lent_request, lent_reply, request_over, reply_over, request_fed, reply_fed, request_handed, reply_handed, request_handed_over, reply_handed_over}
+use Rattle.promises.specs.Fed.{HandCall, HandOverCall, Over, handed, handed_over, made_over, said_request, said_reply, lent_request, lent_reply, request_fed, reply_fed, request_handed, reply_handed, request_handed_over, reply_handed_over}
 use Rattle.promises.specs.Offered.{Answers}
 use Rattle.promises.proofs.Offered.{answers_by}
-use Rattle.promises.proofs.Steady.{Answering, by_calls}
+use Rattle.promises.proofs.Steady.{by_calls}
 use Rattle.promises.proofs.Demand3.{request_demand, reply_demand}
 use Rattle.promises.proofs.Cutting.{Meets, however_cut}
 use Rattle.promises.proofs.Locals.{request_local, reply_local}

@@ -22,7 +22,6 @@ use Rattle.walk.proofs.Looking.{slot_below}
 use Rattle.walk.specs.Judge as judge
 use Rattle.walk.specs.Judge.{Terms, Under, body_in, part_of, read_by}
 use Rattle.walk.specs.Message.{contents}
-use Rattle.places.specs.Places.{room_of}
 use Rattle.request.specs.Request as requests
 use Rattle.request.specs.declared.Request.TheVariants.{KeyExchange, FixedKey, Support}
 use Rattle.request.proofs.Numbered.{request_numbered}

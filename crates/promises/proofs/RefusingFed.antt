@@ -1,7 +1,7 @@
 -- A call that feeds a read refuses with a number of its set, or gives the refusal that its connection holds again; and it leaves the table as it was. For every sort of read.
 -- Assumes nothing.
 use mathlib.Core.Path.{◌≡◌, refl, sym, ap, subst, ◌∙◌}
-use mathlib.Core.List.{List, ◌∷◌}
+use mathlib.Core.List.{List}
 use mathlib.Core.Bool.{Bool, true≢false}
 use Prim.Native.Nat.{ℕ}
 use native.Mathlib.Omega.{arith}
@@ -16,14 +16,13 @@ use Rattle.layout.specs.declared.Profile.{Profile}
 use Rattle.layout.specs.declared.Profile.TheVariants.{Usual, Strict}
 use Rattle.walk.specs.Judge as judge
 use Rattle.walk.specs.Judge.{Terms}
-use Rattle.places.specs.Places.{room_of}
 use Rattle.request.specs.Request as requests
 use Rattle.request.proofs.Order.{room_alone}
 use Rattle.request.proofs.Numbered.{request_numbered}
 use Rattle.request.proofs.StrictNumbers.{strict_numbered}
 use Rattle.reply.specs.Reply as replies
 use Rattle.reply.proofs.Numbered.{reply_numbered}
-use Rattle.pieces.specs.Pieces.{Standing, pending, accepted, refused, Line, Brought, Read, Fed, none, answers, answer_of, Says, nothing_yet, says, says_of, held, Hands, told_connection}
+use Rattle.pieces.specs.Pieces.{Standing, pending, accepted, refused, Line, Brought, Read, Fed, none, answers, answer_of, Says, says, says_of, held, Hands, told_connection}
 use Rattle.pieces.specs.Reads.{request_read, told_request, FeedsRequest, reply_read, told_reply, FeedsReply, of_request, of_reply, HandsOver}
 use Rattle.pieces.specs.declared.Connection.{Connection}
 use Rattle.pieces.specs.declared.Expected.{Expected}

@@ -1,19 +1,19 @@
 -- 01's table of messages, the rows marked *, and the strict profile's, for every call of the reader of requests and of those that a host links: over the definition they are
 -- `messages` and `strict_messages` (request/proofs/Messages.antt), and every call answers as the definition does.
 -- Assumes nothing.
-use mathlib.Core.Path.{◌≡◌, refl, sym, ap, subst, ◌∙◌}
+use mathlib.Core.Path.{◌≡◌, refl, ap, subst, ◌∙◌}
 use mathlib.Core.List.{List, [], ◌∷◌}
 use Prim.Native.Nat.{ℕ}
 use Rattle.layout.specs.declared.Profile.{Profile}
 use Rattle.walk.specs.Judge.{refused, accepted}
 use Rattle.walk.specs.Judge as judge
 use Rattle.request.specs.Request.{Form, request}
-use Rattle.request.specs.Messages.{Outcome, outcome, Under, Row, table, strict_table, Holds}
+use Rattle.request.specs.Messages.{Outcome, outcome, Row, table, strict_table, Holds}
 use Rattle.request.proofs.Order.{room_alone, shows, reading}
 use Rattle.request.proofs.Messages.{messages, strict_messages}
 use Rattle.promises.specs.Handed.{Shown, in_hand}
 use Rattle.promises.specs.Demand3.{Reader}
-use Rattle.promises.specs.Called.{request_parse, request_read_lem, request_read_strict}
+use Rattle.promises.specs.Called.{request_parse, request_read, request_read_strict}
 use Rattle.promises.specs.Starred.{Answers, HoldsFor}
 use Rattle.promises.proofs.Steady.{Faithful}
 use Rattle.promises.proofs.Handing.{request_faithful}
@@ -44,8 +44,8 @@ pub parse_strict : HoldsFor request_parse strict_table
 parse_strict = holds_for request_parse request_faithful strict_table strict_messages
 
 -- of calls of ntske_read_request
-pub read_starred : HoldsFor request_read_lem table
-read_starred = holds_for request_read_lem request_hosted table messages
+pub read_starred : HoldsFor request_read table
+read_starred = holds_for request_read request_hosted table messages
 
 -- of calls of ntske_read_request_strict
 pub read_strict : HoldsFor request_read_strict strict_table

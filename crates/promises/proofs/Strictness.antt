@@ -7,28 +7,27 @@ use mathlib.Core.Bool.{Bool, true, false, cond, not, ◌&&◌, ◌||◌, and-fal
 use mathlib.Core.Logic.{◌⊎◌, inl, inr}
 use Prim.Native.Nat.{ℕ, zero, suc, ◌+◌, ◌-◌, ◌/◌, ◌≤◌, ◌<◌}
 use native.Mathlib.Omega.{arith}
-use native.Mathlib.Nat.{add_assoc, add-zero}
-use lib.ListN.{length, take, drop, length-append, length-take, length-drop}
+use native.Mathlib.Nat.{add-zero}
+use lib.ListN.{length, take, drop, length-append, length-drop}
 use lib.Seq.{length-take-le}
-use lib.Dec.{ltb, leb, eqb}
-use borrow.Author.Tests.{eqb-true, eq-eqb, le-ltb, ltb-false}
+use lib.Dec.{ltb, eqb}
+use borrow.Author.Tests.{eqb-true, le-ltb, ltb-false}
 use Rattle.utf8.specs.Ascii.{is_ascii}
 use Rattle.utf8.proofs.Tests.{on}
 use Rattle.nts.specs.Refusal.{Beside, nothing, code, Refused}
 use Rattle.layout.specs.Profile.{asks_of, is_final, shape_in, knows, allows}
-use Rattle.layout.specs.Table.{shape_of}
 use Rattle.layout.specs.declared.Profile.{Profile}
 use Rattle.layout.specs.declared.Profile.TheVariants.{Usual, Strict}
 use Rattle.layout.specs.declared.Shape.{Shape}
-use Rattle.layout.proofs.Profiles.{strict_far, strict_near, strict_usual, strict_shape, unknown_shape, unknown_allows, usual_allows, usual_shape, zero_known, zero_shape}
-use Rattle.record.specs.Record.{kind, critical, size, there, fault_by, fault}
-use Rattle.walk.specs.Walk.{Act, ends, passes, notes, refuses, Reader, fault_in, act_in, Sighting, Outcome, stopped, ended, Step, stops, goes, has, meet, judge, step, walk, behind, walked}
+use Rattle.layout.proofs.Profiles.{strict_far, strict_near, strict_usual, strict_shape, unknown_shape, unknown_allows, usual_allows, usual_shape}
+use Rattle.record.specs.Record.{kind, critical, size, there, fault_by}
+use Rattle.walk.specs.Walk.{Act, ends, passes, notes, refuses, Reader, fault_in, act_in, Sighting, Outcome, stopped, ended, Step, stops, goes, has, meet, judge, step, walk, walked}
 use Rattle.walk.specs.Judge.{Terms, Under, Judge, Verdict, no, yes, room_for, some, with_first, of_kind, body_in, Answer, refused, accepted, placed, finish, read_as, read_by}
-use Rattle.walk.specs.Message.{Whole, Record, End, Each, flat, message, Parts}
+use Rattle.walk.specs.Message.{Whole, Record, End, Each, flat, Parts}
 use Rattle.walk.specs.Table.{meaning, act_by, table_reader}
 use Rattle.walk.proofs.Unroll.{after}
 use Rattle.walk.proofs.Chunks.{unroll_chunk, each_map}
-use Rattle.walk.proofs.Passing.{is_calm, is_notes, noted, reached, seen_in, sighting_at, Fine, grow, again, Tells, step_tells, step_fine, take_over}
+use Rattle.walk.proofs.Passing.{is_calm, is_notes, noted, reached, seen_in, sighting_at, Fine, grow, Tells, step_tells, step_fine, take_over}
 use Rattle.walk.proofs.Behind.{follows, walked_ended, walked_alone, ended_walked, stopped_walked}
 use Rattle.walk.proofs.Demand3.{zero_act, ends_zero}
 use Rattle.walk.proofs.Numbered.{record_few}
@@ -171,9 +170,9 @@ ascii_set : (k : ℕ) (bit : Bool) (b : List ℕ) → k ≡ 6 → allows (asks_o
 unfolding asks_of allows
 ascii_set k bit b z a = rw z at a
 
-body_size_lem : (e : List ℕ) → Whole e → length (there e) ≡ size e
+body_size : (e : List ℕ) → Whole e → length (there e) ≡ size e
 unfolding there
-body_size_lem e w = length-take-le (size e) (drop 4 e) (omega (arith, w, length-drop 4 e))
+body_size e w = length-take-le (size e) (drop 4 e) (omega (arith, w, length-drop 4 e))
 
 alone_long : (R : Reader) (s : List ℕ) (next : ℕ) → R.final ≡ true → follows R s next ≡ false → length s ≤ next
 alone_long R s next f h = ltb-false next (length s) (sym (ap (λ (t : Bool). t && ltb next (length s)) f) ∙ h)
@@ -521,7 +520,7 @@ module _ (f : ℕ → List ℕ → Act) (once : ℕ → Bool) (goes_on : (k : �
               bits = each_map (λ c a k. bit_set (kind c) (critical c) (there c) k a) p.front each;
               names = each_map (λ c a k. ascii_set (kind c) (critical c) (there c) k a) p.front each;
               end_bit = bit_set (kind p.last) (critical p.last) (there p.last) (omega (arith, p.ends.1)) end;
-              end_empty = p.ends.0 ∙ ap (λ (k : ℕ). 4 + k) (sym (body_size_lem p.last p.ends.0) ∙ empty_set (kind p.last) (critical p.last) (there p.last) p.ends.1 end);
+              end_empty = p.ends.0 ∙ ap (λ (k : ℕ). 4 + k) (sym (body_size p.last p.ends.0) ∙ empty_set (kind p.last) (critical p.last) (there p.last) p.ends.1 end);
               end_final = omega (arith, r.2, late, ap length cut, length-append (flat p.front) (p.last ++ tail), length-append p.last tail);
             }
 

@@ -1,10 +1,10 @@
 -- A line that waits stands for the bytes handed over so far, joined: a call on it comes to what they and its piece come to by themselves, since what waits goes on from
 -- its place, and gathers those bytes and more.
 -- Assumes nothing.
-use mathlib.Core.Path.{◌≡◌, refl, sym, ap, ◌∙◌, subst}
+use mathlib.Core.Path.{◌≡◌, refl, sym, ap, ◌∙◌}
 use mathlib.Core.List.{List, [], ◌++◌}
 use mathlib.Core.Bool.{true, false, cond, ◌||◌}
-use Prim.Native.Nat.{ℕ, ◌+◌, ◌-◌, ◌≤◌}
+use Prim.Native.Nat.{ℕ, ◌-◌, ◌≤◌}
 use native.Mathlib.Omega.{arith}
 use lib.ListN.{length, take, drop, length-append, length-take, take-append-drop}
 use lib.Seq.{length-take-le, take_at}
@@ -17,7 +17,7 @@ use Rattle.walk.specs.Walk.{Reader}
 use Rattle.pieces.specs.Pieces as pieces
 use Rattle.pieces.specs.Pieces.{Line, started, broken, pending, Brought, joined, inside, fitting, full, Going, waits, decides, going, How, waiting, no_room, otherwise}
 use Rattle.pieces.specs.Pieces.{Came, came_to, begins_at, gathers, after_end, comes, is_pending}
-use Rattle.pieces.proofs.Going.{Reaches, going_reaches, going_waits_more, going_decides_more, decides_again}
+use Rattle.pieces.proofs.Going.{going_waits_more, going_decides_more, decides_again}
 use Rattle.promises.proofs.Coming.{fit, fit_short, fit_part, reach, past, how_on, gathered_on, came_on}
 use Rattle.promises.proofs.Coming.{came_gathered, came_short}
 

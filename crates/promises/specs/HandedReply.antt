@@ -1,7 +1,6 @@
 -- What a caller gets in hand of an accepted reply: demand 3, "the answer's kind, numbers, names, keys and cookies".
 use Rattle.std.specs.Prelude.{ℕ, List, Bool, length}
 use Rattle.wire.specs.Bytes.{number_at}
-use Rattle.layout.specs.declared.Part.{Part}
 use Rattle.places.specs.Places.{entries_from}
 use Rattle.reply.specs.Reply as form
 use Rattle.reply.specs.Reply.{Sent, map_sent, told_server, told_port}

@@ -1,7 +1,7 @@
 -- A read fed in pieces, over the calls that were made: 02, order 1, order 3 for what was offered, and order 5 for the profile. What is said here is said of the bytes handed over, joined, and of the whole-message reader;
 -- nothing of a connection record but what it tells its host. proofs/Pieces.antt proves it of the calls of Fed.antt by their own contracts, for requests and for replies, and
 -- PiecesFace.antt of the calls that a host links (FedCells.antt).
-use Rattle.std.specs.Prelude.{ℕ, ◌+◌, ◌≤◌, ◌≡◌, List, [], ◌∷◌, ◌++◌, Bool, true, false, cond, not, ◌&&◌, ◌||◌, length, take, drop, ◌⊎◌, ltb, leb, eqb}
+use Rattle.std.specs.Prelude.{ℕ, ◌+◌, ◌≤◌, ◌≡◌, List, [], ◌∷◌, ◌++◌, Bool, true, false, cond, not, ◌&&◌, ◌||◌, length, take, drop, ◌⊎◌, ltb, eqb}
 use Rattle.wire.specs.Over.{over}
 use Rattle.nts.specs.Refusal.{Refused}
 use Rattle.record.specs.Record.{size}
@@ -9,7 +9,7 @@ use Rattle.layout.specs.declared.Profile.{Profile}
 use Rattle.walk.specs.Walk.{Reader, Outcome, stopped, ended, walk}
 use Rattle.walk.specs.Judge.{Terms, read_by}
 use Rattle.walk.specs.Found.{place_of}
-use Rattle.pieces.specs.Pieces.{Line, started, Standing, pending, Brought, Read, Fed, none, answers, refused_at, by_standing, Says, says_of, standing_by, filled_by, whole}
+use Rattle.pieces.specs.Pieces.{Line, started, pending, Brought, Read, Fed, none, answers, refused_at, by_standing, Says, says_of, standing_by, filled_by, whole}
 use Rattle.promises.specs.Demand3 as demand
 
 -- ---- what joined bytes come to

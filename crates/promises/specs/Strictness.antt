@@ -1,6 +1,6 @@
 -- What strictness gives a plant: 02, order 5. Of a message that the strict reader accepts: it is what RFC 8915 allows, in its words, with its sections; and how the usual reader
 -- reads it, which is alike unless it holds a record of a kind that is not the RFC's. proofs/Strictness.antt proves it of requests and of replies.
-use Rattle.std.specs.Prelude.{ℕ, ◌+◌, ◌≤◌, ◌≡◌, List, [], ◌∷◌, ◌++◌, Bool, true, false, not, ◌&&◌, ◌⊎◌, length, take}
+use Rattle.std.specs.Prelude.{ℕ, ◌+◌, ◌≤◌, ◌≡◌, List, ◌∷◌, ◌++◌, Bool, true, not, ◌&&◌, ◌⊎◌, length, take}
 use Rattle.utf8.specs.Ascii.{is_ascii}
 use Rattle.nts.specs.Refusal.{Refused}
 use Rattle.layout.specs.Profile.{knows}

@@ -22,8 +22,7 @@ use request::Request;
 // the algorithms, and how many names are denied; 2 for fixed keys, then start and length of the authentication, of the key from client to
 // server and of that from server to client, the algorithm, the protocol, and keep-alive; 3 for support, then start and length of the
 // authentication, whether protocols and algorithms are wanted, and keep-alive. Refusals: 1 to 7, at a place.
-#[unsafe(no_mangle)]
-pub extern "C" fn ntske_read_request(
+pub fn ntske_read_request(
     message: &[u8],
     limit: u16,
     table: &mut [u16],
@@ -37,8 +36,7 @@ pub extern "C" fn ntske_read_request(
 // Reads a request as ntske_read_request does, in the strict profile: kinds 0, 1, 2 and 3 need their critical bit, an end record has no body and no byte follows it
 // inside the limit, a server's name is ASCII, and kinds 8 to 14 are unknown. Answer, ten cells: 1, since there are only key exchanges, then start and length of the
 // protocols and of the algorithms; the others are 0. No name is denied, and the table stays as it was. Refusals: 1 to 4 and 18, at a place.
-#[unsafe(no_mangle)]
-pub extern "C" fn ntske_read_request_strict(
+pub fn ntske_read_request_strict(
     message: &[u8],
     limit: u16,
     table: &mut [u16],
@@ -52,8 +50,7 @@ pub extern "C" fn ntske_read_request_strict(
 // Reads a reply as if the message were cut after `limit` bytes, to one who offered these protocols and algorithms. Answer, nine cells: protocol, algorithm, whether a
 // server is named and start and length of its name, whether there is a port and its number, keep-alive, and how many cookies there are. Refusals: 1 to 4, 7, 11 to
 // 15, 17, at a place.
-#[unsafe(no_mangle)]
-pub extern "C" fn ntske_read_reply(
+pub fn ntske_read_reply(
     message: &[u8],
     limit: u16,
     protocols: &[u16],
@@ -76,8 +73,7 @@ pub extern "C" fn ntske_read_reply(
 
 // Reads a reply as ntske_read_reply does, in the strict profile. Answer, nine cells as there; keep-alive, whose kind is unknown, is always 0. Refusals: 1 to 4, 7, 11
 // to 15, 17, 18, at a place.
-#[unsafe(no_mangle)]
-pub extern "C" fn ntske_read_reply_strict(
+pub fn ntske_read_reply_strict(
     message: &[u8],
     limit: u16,
     protocols: &[u16],
@@ -101,8 +97,7 @@ pub extern "C" fn ntske_read_reply_strict(
 // Reads the record at a place. Answer, eight cells: its kind, its critical bit as received, the number of kinds 2, 3 and 7, start and length of the
 // body or of the first key, start and length of the second key, and the place after it. Refusals: 1 and 2, at the place that was asked for, which the word
 // does not tell.
-#[unsafe(no_mangle)]
-pub extern "C" fn ntske_read_record(message: &[u8], place: usize, answer: &mut [usize; 8]) -> u64
+pub fn ntske_read_record(message: &[u8], place: usize, answer: &mut [usize; 8]) -> u64
     ensures { Gives (record_given (read_at message.now place)) answer.old result answer.new }
 {
     let read = NtsRecord::parse(message, place);
@@ -120,8 +115,7 @@ pub extern "C" fn ntske_read_record(message: &[u8], place: usize, answer: &mut [
 }
 
 // The critical bit that document 01 names for a kind, which is the one that a writer sets: 1 set, 0 clear, and 2 where an unknown kind has none of its own.
-#[unsafe(no_mangle)]
-pub extern "C" fn ntske_bit_named(kind: u16) -> u64
+pub fn ntske_bit_named(kind: u16) -> u64
     ensures { result ≡ bit_cell (bit_named kind) }
 {
     let bit = NtsRecord::bit_named(kind);
@@ -133,8 +127,7 @@ pub extern "C" fn ntske_bit_named(kind: u16) -> u64
 }
 
 // 1 where the bytes are UTF-8, and 0 where they are not.
-#[unsafe(no_mangle)]
-pub extern "C" fn ntske_is_utf8(bytes: &[u8]) -> u64
+pub fn ntske_is_utf8(bytes: &[u8]) -> u64
     ensures { result ≡ flag (well_formed bytes.now) }
 {
     if utf8::is_utf8(bytes) { 1 } else { 0 }

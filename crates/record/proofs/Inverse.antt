@@ -11,7 +11,7 @@ use Rattle.nts.specs.Refusal.{Refused, nothing}
 use Rattle.layout.specs.Table.{shape_of}
 use Rattle.layout.specs.declared.Shape.{Shape}
 use Rattle.layout.specs.declared.Shape.TheVariants.{Skipped, Numbers, Number, Bytes, Name, Pairs, Halves, Unknown}
-use Rattle.record.specs.Record.{kind, critical, size, there, fault_by, fault, Value, skipped, number, part, halves, unknown, value_of, Seen, seen_of, Told, read, refused, read_from, whole, broken, look_from}
+use Rattle.record.specs.Record.{kind, critical, size, there, fault_by, fault, Value, unknown, value_of, Seen, seen_of, read, refused, read_from, whole, broken, look_from}
 
 -- a record that was read at the front of t, which begins at `at`
 pub record WasRead (at : ℕ) (t : List ℕ) (x : Seen) (bit : Bool) (next : ℕ) : Type 0 where

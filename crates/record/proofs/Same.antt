@@ -6,7 +6,7 @@ use Rattle.record.proofs.Apart.{cursor_apart, parsed_apart, looked_apart, protoc
 use Rattle.record.proofs.NtsRecord.parse.Reads as parse
 use Rattle.record.proofs.NtsRecord.serialize.Reads as serialize
 use Rattle.record.proofs.NtsRecord.length.Reads as length
-use Rattle.record.proofs.NtsRecord.bit_named.Reads as bit_named_lem
+use Rattle.record.proofs.NtsRecord.bit_named.Reads as bit_named
 use Rattle.record.proofs.Cursor.new.Reads as new
 use Rattle.record.proofs.Cursor.read.Reads as read
 use Rattle.record.proofs.look.Reads as look
@@ -38,7 +38,7 @@ description_at_same κs a r r' e e' p q = pair_apart r r' (p ∙ sym q)
 pub NtsRecord-length_same : (κs : _) (a : _) (r r' : _) (e e' : _) → length.Learnt κs a r e → length.Learnt κs a r' e' → r ≡ r'
 NtsRecord-length_same κs a r r' e e' p q = count_apart r r' (p ∙ sym q)
 
-pub NtsRecord-bit_named_same : (κs : _) (a : _) (r r' : _) (e e' : _) → bit_named_lem.Learnt κs a r e → bit_named_lem.Learnt κs a r' e' → r ≡ r'
+pub NtsRecord-bit_named_same : (κs : _) (a : _) (r r' : _) (e e' : _) → bit_named.Learnt κs a r e → bit_named.Learnt κs a r' e' → r ≡ r'
 NtsRecord-bit_named_same κs a r r' e e' p q = p ∙ sym q
 
 -- a writer's output afterwards is among what the contract determines

@@ -10,11 +10,11 @@ use lib.Dec.{ltb, eqb}
 use Rattle.wire.specs.Bytes.{number_at}
 use Rattle.nts.specs.Refusal.{Beside, nothing, code}
 use Rattle.layout.specs.declared.Profile.{Profile}
-use Rattle.walk.specs.Walk.{Act, ends, notes, refuses}
-use Rattle.walk.specs.Judge.{Verdict, no, yes, Terms, some}
+use Rattle.walk.specs.Walk.{ends, notes, refuses}
+use Rattle.walk.specs.Judge.{Terms}
 use Rattle.walk.proofs.Laws.{map_verdict, Lawful}
 use Rattle.walk.proofs.Verdicts.{some_length, some_map, if_map, first_map}
-use Rattle.reply.specs.Reply.{act, once, reader, map_sent, first_sent, Form, decide, judging}
+use Rattle.reply.specs.Reply.{act, once, reader, map_sent, first_sent, decide, judging}
 
 -- ---- kind 0 alone ends a message
 

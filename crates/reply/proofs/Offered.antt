@@ -2,20 +2,19 @@
 -- Assumes nothing.
 use mathlib.Core.Path.{◌≡◌, refl, sym, ap, ◌∙◌}
 use mathlib.Core.List.{List, [], ◌∷◌}
-use mathlib.Core.Bool.{Bool, true, false, cond, not, ◌||◌, true≢false}
+use mathlib.Core.Bool.{Bool, true, false, cond, not, true≢false}
 use mathlib.Core.Logic.{◌⊎◌, inl, inr}
 use Prim.Native.Nat.{ℕ, ◌<◌}
 use native.Mathlib.Omega.{arith}
-use lib.ListN.{length, take}
+use lib.ListN.{take}
 use lib.Dec.{ltb, eqb}
 use borrow.Author.Tests.{eq-eqb}
 use Rattle.nts.specs.Refusal.{Beside, nothing, protocol, algorithm, Refused}
-use Rattle.layout.specs.Table.{row_of, shape_of}
 use Rattle.walk.specs.Walk.{Reader, Sighting, Outcome, stopped, ended, walked}
-use Rattle.walk.specs.Judge.{Terms, room_for, Under, body_in, placed, finish, read_as}
+use Rattle.walk.specs.Judge.{Terms, room_for, Under, finish, read_as}
 use Rattle.walk.specs.Rules.{Rules, is_noted}
-use Rattle.walk.specs.Found.{Way, way_of, place_of, entry_in, told_in}
-use Rattle.walk.specs.Finding.{Found, found_by, told_finding}
+use Rattle.walk.specs.Found.{way_of, place_of, entry_in}
+use Rattle.walk.specs.Finding.{found_by, told_finding}
 use Rattle.walk.specs.declared.Stop.TheVariants as stop
 use Rattle.walk.specs.declared.Finding.{Finding}
 use Rattle.layout.specs.declared.Profile.{Profile}
@@ -23,7 +22,7 @@ use Rattle.layout.specs.declared.Profile.TheVariants.{Usual, Strict}
 use Rattle.walk.proofs.Numbered.{Barred, walk_numbered}
 use Rattle.walk.proofs.Answered.{told_ended, ended_fits}
 use Rattle.negotiation.specs.Negotiation.{holds}
-use Rattle.reply.specs.Reply.{reader, rules, decide, judging, reply_of, offering, Told, refused_with, told_by, Early, Late, named_by, Names}
+use Rattle.reply.specs.Reply.{reader, rules, judging, reply_of, offering, Told, refused_with, told_by, Early, Late, named_by, Names}
 use Rattle.reply.specs.Code.{number_in, accepted_in, cookies_for}
 use Rattle.reply.specs.declared.Named.{Named}
 use Rattle.reply.proofs.Reader.{table_reader_lem}

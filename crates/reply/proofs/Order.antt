@@ -9,7 +9,6 @@ use Prim.Native.Nat.{ℕ, ◌+◌, ◌≤◌}
 use lib.ListN.{length}
 use lib.Dec.{ltb, eqb}
 use borrow.Author.Tests.{ltb-false}
-use Rattle.nts.specs.Refusal.{nothing}
 use Rattle.layout.specs.declared.Profile.{Profile}
 use Rattle.walk.specs.Walk.{Sighting}
 use Rattle.wire.specs.Bytes.{number_at}

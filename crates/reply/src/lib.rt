@@ -70,7 +70,7 @@ pub const RULES: [u8; 15] = [
     NOTED, // 5 cookie
     ONCE, // 6 server
     ONCE, // 7 port
-    NOTED, // 8 keep_alive
+    NOTED, // 8 keep-alive
     REFUSED, // 9 supported protocols
     REFUSED, // 10 supported algorithms
     REFUSED, // 11, which is unknown and not asked

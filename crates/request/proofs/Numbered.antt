@@ -1,7 +1,7 @@
 -- A request's walk stops with 1 to 4, and a request is refused with 1 to 7, in the strict profile with 18 too, and no other number; 5 alone has a number beside it, of sixteen bits, where the message is bytes.
 -- Assumes nothing.
 use mathlib.Core.Path.{◌≡◌, refl}
-use mathlib.Core.List.{List, []}
+use mathlib.Core.List.{List}
 use mathlib.Core.Bool.{◌&&◌, ◌||◌}
 use Prim.Native.Nat.{ℕ, ◌/◌}
 use lib.ListN.{length}

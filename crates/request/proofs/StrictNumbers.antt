@@ -6,13 +6,12 @@ use mathlib.Core.List.{List, [], ◌∷◌}
 use Prim.Native.Nat.{ℕ, ◌≤◌, zero-le}
 use native.Mathlib.Omega.{arith}
 use borrow.Author.Tests.{le-ltb}
-use lib.ListN.{length, take}
-use lib.Dec.{ltb}
-use Rattle.nts.specs.Refusal.{nothing, Refused}
+use lib.ListN.{take}
+use Rattle.nts.specs.Refusal.{Refused}
 use Rattle.layout.specs.declared.Profile.TheVariants.{Strict}
 use Rattle.layout.proofs.Profiles.{strict_far}
 use Rattle.walk.specs.Walk.{Sighting, Outcome, stopped, ended, walked}
-use Rattle.walk.specs.Judge.{Under, room_for, of_kind, body_in, refused, placed, finish, read_as}
+use Rattle.walk.specs.Judge.{Under, room_for, of_kind, refused, placed, finish, read_as}
 use Rattle.walk.proofs.Behind.{walked_ended}
 use Rattle.walk.proofs.Unnoted.{walk_unnoted}
 use Rattle.request.specs.Request.{reader, exchange_by, decide, judging, request}

@@ -1,5 +1,5 @@
 -- A request: 01, "From records to a request", in a profile: 02, order 5.
-use Rattle.std.specs.Prelude.{ℕ, ◌+◌, ◌/◌, ◌≡◌, List, [], ◌∷◌, map, Bool, true, false, cond, not, ◌&&◌, ◌||◌, length, ltb, eqb}
+use Rattle.std.specs.Prelude.{ℕ, ◌+◌, ◌/◌, ◌≡◌, List, [], ◌∷◌, map, Bool, cond, ◌&&◌, ◌||◌, length, ltb, eqb}
 use Rattle.wire.specs.Bytes.{number_at}
 use Rattle.wire.specs.Over.{over}
 use Rattle.nts.specs.Refusal.{nothing, code, Refused, told_refusal}
@@ -45,7 +45,7 @@ rules =
     ∷ rule.refused  -- 5 cookie
     ∷ rule.passed  -- 6 server
     ∷ rule.passed  -- 7 port
-    ∷ rule.noted  -- 8 keep_alive
+    ∷ rule.noted  -- 8 keep-alive
     ∷ rule.once  -- 9 supported protocols
     ∷ rule.once  -- 10 supported algorithms
     ∷ rule.refused  -- 11, which is unknown and not asked

@@ -65,7 +65,7 @@ pub const RULES: [u8; 15] = [
     REFUSED, // 5 cookie
     PASSED, // 6 server
     PASSED, // 7 port
-    NOTED, // 8 keep_alive
+    NOTED, // 8 keep-alive
     ONCE, // 9 supported protocols
     ONCE, // 10 supported algorithms
     REFUSED, // 11, which is unknown and not asked

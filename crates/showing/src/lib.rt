@@ -8,8 +8,7 @@ ghost use Rattle.cells.specs.Cells.{Writes};
 
 // Lists the records of a message read as if it were cut after `limit` bytes, and what the request reader answers for it with room for so many names. Answer, one
 // cell: how many bytes the text has. Refusals: 10.
-#[unsafe(no_mangle)]
-pub extern "C" fn ntske_list(
+pub fn ntske_list(
     message: &[u8],
     limit: u16,
     room: usize,

@@ -6,7 +6,7 @@ use mathlib.Core.Bool.{true, false}
 use Prim.Native.Nat.{ℕ, ◌<◌}
 use native.Mathlib.Omega.{arith}
 use lib.ListN.{length, take, length-take}
-use Rattle.nts.specs.Refusal.{Refused, number_of, beside_of}
+use Rattle.nts.specs.Refusal.{number_of, beside_of}
 use Rattle.nts.specs.declared.NtsError.{NtsError}
 use lib.Dec.{eqb}
 use Rattle.walk.specs.Walk.{Reader, Sighting, Outcome, stopped, ended, walk, walked}

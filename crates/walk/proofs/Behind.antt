@@ -7,7 +7,7 @@ use Prim.Native.Nat.{ℕ, ◌≤◌}
 use native.Mathlib.Omega.{arith}
 use lib.ListN.{length}
 use lib.Dec.{ltb}
-use borrow.Author.Tests.{le-ltb, ltb-false}
+use borrow.Author.Tests.{le-ltb}
 use Rattle.nts.specs.Refusal.{nothing, Refused}
 use Rattle.walk.specs.Walk.{Reader, Sighting, Outcome, stopped, ended, walk, behind, walked}
 

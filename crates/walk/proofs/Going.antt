@@ -2,18 +2,18 @@
 -- Assumes nothing.
 use mathlib.Core.Path.{◌≡◌, refl, sym, ap, ◌∙◌}
 use mathlib.Core.List.{List, [], ◌∷◌, ◌++◌, map, append_assoc, append-nil}
-use mathlib.Core.Bool.{Bool, true, cond}
+use mathlib.Core.Bool.{Bool, true}
 use Prim.Native.Nat.{ℕ, ◌+◌, ◌<◌, ◌≤◌}
 use native.Mathlib.Omega.{arith}
-use lib.ListN.{length, get_or, drop, length-drop, length-append, length-map}
+use lib.ListN.{length, drop, length-append, length-map}
 use lib.Seq.{drop-drop}
-use lib.Dec.{ltb, eqb}
+use lib.Dec.{ltb}
 use borrow.Author.Tests.{ne_eqb}
 use Rattle.nts.specs.Refusal.{nothing, Refused, told_refusal}
 use Rattle.nts.specs.declared.NtsError.{NtsError}
 use Rattle.nts.specs.declared.Refusal.{Refusal}
-use Rattle.layout.specs.Profile.{asks_of, shape_in, knows, allows}
-use Rattle.record.specs.Record.{kind, size, whole, broken, look_at, fault_by}
+use Rattle.layout.specs.Profile.{shape_in, knows}
+use Rattle.record.specs.Record.{kind, size, whole, broken, look_at}
 use Rattle.record.specs.Told.{told_looked}
 use Rattle.layout.specs.declared.Shape.{Shape}
 use Rattle.record.specs.declared.Glance.{Glance}
@@ -24,7 +24,7 @@ use Rattle.record.proofs.Read.{look_inside}
 use Rattle.walk.specs.Walk.{Reader, Sighting, stopped, ended, step, fault_in, walk}
 use Rattle.walk.specs.Judge.{of_kind}
 use Rattle.walk.specs.Rules.{Rules, entry_of, reader_of}
-use Rattle.walk.specs.Shown.{Mark, mark_at, shown, slot_of, counted}
+use Rattle.walk.specs.Shown.{Mark, mark_at, shown, counted}
 use Rattle.walk.specs.Found.{entry_in, Stands, way_refused, way_of, next_of, Walks}
 use Rattle.walk.specs.Code.{slot_in, Asked, asked, verdict_of, more_in, Met, Few, looked_of, verdict_in, next_in, cells_in, Steps}
 use Rattle.walk.specs.declared.Stop.TheVariants as stop

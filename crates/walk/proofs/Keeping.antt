@@ -5,20 +5,18 @@ use mathlib.Core.List.{List, [], ◌∷◌, ◌++◌, map, append_assoc, append-
 use mathlib.Core.Bool.{Bool, true, false, cond}
 use Prim.Native.Nat.{ℕ, zero, suc, ◌+◌}
 use native.Mathlib.Omega.{arith}
-use lib.ListN.{get_or}
-use lib.Dec.{ltb, eqb}
+use lib.Dec.{eqb}
 use borrow.Author.Tests.{eqb-true, eqb-false}
-use Rattle.layout.specs.Profile.{asks_of, shape_in, knows, allows}
 use Rattle.record.specs.Record.{kind, critical, size, fault_by}
 use Rattle.walk.specs.Walk.{Reader, Sighting, Outcome, stopped, ended, Step, stops, goes, has, step, fault_in, walk}
 use Rattle.walk.specs.Rules.{Rules, entry_of, reader_of}
-use Rattle.walk.specs.Shown.{Mark, mark_at, shown, slot_of, counted}
-use Rattle.walk.specs.Code.{slot_in, Asked, asked, verdict_of}
+use Rattle.walk.specs.Shown.{Mark, mark_at, shown, counted}
+use Rattle.walk.specs.Code.{slot_in, asked, verdict_of}
 use Rattle.walk.specs.declared.Verdict.{Verdict}
 use Rattle.walk.specs.declared.Verdict.TheVariants.{On, End, Stop}
 use Rattle.walk.proofs.Looking.{asks}
 use Rattle.walk.proofs.Meeting.{step_of, more_of, step_is, step_fault, end_unnoted}
-use Rattle.walk.proofs.Standing.{Kept, kept_start, kept_more}
+use Rattle.walk.proofs.Standing.{Kept, kept_more}
 use Rattle.walk.proofs.Faultless.{faultless_whole}
 use Rattle.walk.proofs.Marks.{bit_count}
 

@@ -13,7 +13,7 @@ use lib.Dec.{ltb, eqb}
 use borrow.Author.Tests.{ltb-false}
 use Rattle.nts.specs.Refusal.{Beside, nothing}
 use Rattle.record.specs.Record.{kind, there}
-use Rattle.walk.specs.Walk.{ends, passes, refuses, Reader, fault_in, act_in, Sighting, Outcome, stopped, ended, stops, meet, judge, step, walk, behind, walked}
+use Rattle.walk.specs.Walk.{passes, refuses, Reader, fault_in, act_in, Sighting, Outcome, stopped, ended, stops, meet, judge, step, walk, behind, walked}
 use Rattle.walk.specs.Judge.{Verdict, no, yes, Under, Judge, of_kind, body_in, refused, accepted, placed, finish, read_as}
 use Rattle.walk.specs.Message.{Whole, Each, flat, message, Parts, contents, Shows}
 use Rattle.walk.proofs.Behind.{follows, none_follows, stopped_walked, ended_walked}

@@ -5,7 +5,7 @@ use mathlib.Core.List.{List}
 use mathlib.Core.Bool.{Bool, true, false, not, cond, ◌||◌}
 use Prim.Native.Nat.{ℕ, ◌+◌, ◌<◌, ◌≤◌}
 use native.Mathlib.Omega.{arith}
-use lib.ListN.{length, take, drop}
+use lib.ListN.{length, drop}
 use lib.Seq.{drop-drop}
 use lib.Dec.{leb, eqb}
 use borrow.Author.Tests.{lt-leb, le-leb, leb-true, leb-false, eqb-true}
@@ -23,7 +23,7 @@ use Rattle.layout.proofs.Profiles.{knows_below, eleven_unknown, unknown_allows, 
 use Rattle.record.specs.Record.{kind, critical, size, there}
 use Rattle.record.proofs.Inverse.{WasWhole}
 use Rattle.record.proofs.Whole.{number_length}
-use Rattle.walk.specs.Walk.{Act, refuses, fault_in}
+use Rattle.walk.specs.Walk.{refuses, fault_in}
 use Rattle.walk.specs.Rules.{Rules, tell_act, reader_of}
 use Rattle.walk.specs.Code.{error_of, Asked, asked, slot_in}
 use Rattle.walk.specs.Shown.{slot_of}

@@ -5,13 +5,13 @@ use mathlib.Core.Path.{◌≡◌, refl, sym, ap, ◌∙◌, subst}
 use mathlib.Core.List.{List, [], ◌∷◌, ◌++◌}
 use mathlib.Core.Bool.{Bool, true, false, cond, ◌||◌, or-false, or_comm, or_assoc}
 use Prim.Native.Nat.{ℕ, ◌+◌}
-use lib.ListN.{get_or, drop}
+use lib.ListN.{drop}
 use native.Mathlib.Omega.{arith}
 use lib.Dec.{ltb, eqb}
 use borrow.Author.Tests.{lt-ltb, eqb-true, eqb-false}
 use Rattle.nts.specs.Refusal.{told_refusal}
 use Rattle.nts.specs.declared.Refusal.{Refusal}
-use Rattle.layout.specs.Profile.{asks_of, shape_in, knows, allows}
+use Rattle.layout.specs.Profile.{shape_in, knows}
 use Rattle.record.specs.Record.{kind, critical, size, whole, look_at}
 use Rattle.record.specs.Told.{told_looked}
 use Rattle.record.specs.declared.Looked.{Looked}
@@ -19,7 +19,7 @@ use Rattle.record.specs.declared.Looked.TheVariants as looked
 use Rattle.record.proofs.Inverse.{whole_was, broken_was}
 use Rattle.record.proofs.Read.{look_inside}
 use Rattle.walk.proofs.Faultless.{faultless_whole}
-use Rattle.walk.specs.Walk.{Reader, Sighting, Outcome, stopped, ended, Step, stops, goes, has, fault_in, step}
+use Rattle.walk.specs.Walk.{Reader, Sighting, Outcome, Step, stops, goes, has, fault_in, step}
 use Rattle.walk.specs.Judge.{some}
 use Rattle.walk.specs.Rules.{Rules, entry_of, is_noted, reader_of}
 use Rattle.walk.specs.Shown.{mark_at, slot_of, counted}

@@ -2,25 +2,22 @@
 -- Assumes nothing.
 use mathlib.Core.Path.{◌≡◌, refl, sym, ap, ◌∙◌}
 use mathlib.Core.List.{List, [], ◌∷◌, ◌++◌, append-nil}
-use mathlib.Core.Bool.{Bool, true, false, cond, ◌&&◌, ◌||◌, true≢false}
-use Prim.Native.Nat.{ℕ, zero, suc, ◌+◌, ◌<◌, ◌≤◌}
+use mathlib.Core.Bool.{Bool, true, false, cond, ◌&&◌, true≢false}
+use Prim.Native.Nat.{ℕ, zero, suc, ◌+◌, ◌≤◌}
 use native.Mathlib.Omega.{arith}
-use lib.ListN.{length, get_or, set, drop, length-append, length-drop}
-use lib.Seq.{get_or-set_same, get_or-set_other, length-take-le}
-use lib.Dec.{ltb, leb, eqb}
-use borrow.Author.Tests.{eqb-true, eqb-false, eq-eqb, ne_eqb, lt-ltb, leb-false, le-leb}
-use Rattle.nts.specs.Refusal.{nothing, code, number_of, beside_of}
+use lib.ListN.{length}
+use lib.Dec.{ltb, eqb}
+use borrow.Author.Tests.{eqb-true, eqb-false, ne_eqb, lt-ltb}
+use Rattle.nts.specs.Refusal.{nothing, number_of, beside_of}
 use Rattle.nts.specs.declared.NtsError.{NtsError}
 use Rattle.layout.specs.Profile.{asks_of, shape_in, knows, allows}
-use Rattle.record.specs.Record.{kind, critical, size, there, Value, number, value_of, seen_of, fault_by}
-use Rattle.walk.specs.Walk.{Act, ends, passes, notes, refuses, Sighting, stopped, ended, Step, stops, goes, has, meet, judge, step, fault_in, act_in}
-use Rattle.walk.specs.Judge.{of_kind, some}
+use Rattle.record.specs.Record.{kind, critical, size, there, fault_by}
+use Rattle.walk.specs.Walk.{passes, notes, refuses, Sighting, stopped, ended, Step, stops, goes, has, meet, judge, step, fault_in, act_in}
 use Rattle.record.proofs.Whole.{there_length}
 use Rattle.walk.proofs.Noted.{sighting}
 use Rattle.walk.specs.Table.{meaning}
 use Rattle.walk.specs.Rules.{Rules, entry_of, tell_act, rule_act, is_noted, act_at, once_at, reader_of}
 use Rattle.walk.specs.Code.{Asked, at_most, ruled_of, meant_of, verdict_of}
-use Rattle.walk.specs.Shown.{slot_of}
 use Rattle.layout.specs.declared.Profile.{Profile}
 use Rattle.layout.proofs.Profiles.{eleven_unknown}
 use Rattle.walk.proofs.Looking.{slot_known, Asks}

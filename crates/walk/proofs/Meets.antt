@@ -3,17 +3,17 @@
 use mathlib.Core.Path.{◌≡◌, refl, sym, ap, subst, ◌∙◌}
 use mathlib.Core.List.{List, [], ◌∷◌, ◌++◌}
 use mathlib.Core.Bool.{Bool, true, false, cond, ◌&&◌}
-use Prim.Native.Nat.{ℕ, zero, suc, ◌+◌, ◌<◌, ◌≤◌}
+use Prim.Native.Nat.{ℕ, zero, suc, ◌+◌, ◌≤◌}
 use native.Mathlib.Omega.{arith}
 use lib.Dec.{eqb}
 use lib.ListN.{length, drop, length-append, length-drop}
 use lib.Seq.{drop-drop}
 use borrow.Author.Tests.{eqb-true, eq-eqb, ne_eqb}
 use Rattle.nts.specs.Refusal.{nothing, Refused}
-use Rattle.record.specs.Record.{kind, critical, size, whole, broken, look_from, look_at}
+use Rattle.record.specs.Record.{kind, size, whole, broken, look_from, look_at}
 use Rattle.record.proofs.Inverse.{whole_was, broken_was}
 use Rattle.record.proofs.Read.{look_inside}
-use Rattle.walk.specs.Walk.{Act, ends, passes, notes, refuses, Reader, Sighting, Outcome, stopped, ended, Step, stops, goes, has, meet, judge, step, fault_in, act_in, walk}
+use Rattle.walk.specs.Walk.{Act, ends, passes, notes, refuses, Reader, Sighting, Outcome, stopped, Step, stops, goes, has, meet, judge, step, fault_in, act_in, walk}
 use Rattle.walk.specs.Shown.{Mark, mark_at, shown}
 use Rattle.walk.specs.Found.{place_of}
 use Rattle.walk.proofs.Faultless.{faultless_whole}

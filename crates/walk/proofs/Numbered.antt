@@ -7,9 +7,8 @@ use mathlib.Core.Bool.{Bool, true, false, cond, not, ◌&&◌, ◌||◌, true≢
 use Prim.Native.Nat.{ℕ, zero, suc, ◌+◌, ◌*◌, ◌/◌, ◌%◌, ◌<◌, ◌≤◌}
 use native.Mathlib.Omega.{arith}
 use borrow.Author.Tests.{leb-true}
-use lib.ListN.{length, get_or, take, drop}
+use lib.ListN.{length, take}
 use lib.Dec.{leb, ltb, eqb}
-use Rattle.wire.specs.Bytes.{number_at}
 use Rattle.wire.proofs.Bytes.{Small, small_part, number_small}
 use Rattle.nts.specs.Refusal.{Beside, nothing, code, protocol, algorithm, Refused}
 use Rattle.layout.specs.declared.Shape.{Shape}

@@ -9,7 +9,7 @@ use lib.ListN.{length, get_or, drop, drop_of_length-le}
 use lib.Seq.{drop-cons}
 use lib.Dec.{eqb}
 use borrow.Author.Tests.{eqb-true, eq-eqb, ne_eqb}
-use Rattle.nts.specs.Refusal.{Beside, nothing, code, protocol, algorithm, beside_number, Refused}
+use Rattle.nts.specs.Refusal.{Beside, nothing, code, protocol, algorithm, beside_number}
 use Rattle.walk.specs.Found.{Way, way_refused, way_ended}
 use Rattle.walk.specs.Finding.{Found, same_numbers, sort_in, same_beside, same_way, same_found}
 

@@ -8,8 +8,8 @@ use native.Mathlib.Omega.{arith}
 use lib.ListN.{length, get_or, set, length-append, length-set}
 use lib.Seq.{get_or-set_same, get_or-set_other}
 use lib.Dec.{ltb, eqb}
-use borrow.Author.Tests.{eqb-true, eqb-false, eq-eqb, ne_eqb, lt-ltb}
-use Rattle.layout.specs.Profile.{asks_of, shape_in, knows, allows}
+use borrow.Author.Tests.{eqb-true, eqb-false, ne_eqb, lt-ltb}
+use Rattle.layout.specs.Profile.{knows}
 use Rattle.record.specs.Record.{kind, size}
 use Rattle.walk.specs.Walk.{Sighting, has}
 use Rattle.walk.specs.Judge.{of_kind, some}
@@ -17,7 +17,7 @@ use Rattle.walk.proofs.Noted.{kind_append, sighting, kind_more, has_some}
 use Rattle.walk.specs.Rules.{Rules, entry_of, is_noted, reader_of}
 use Rattle.walk.specs.Shown.{mark_at, slot_of, counted}
 use Rattle.walk.specs.Found.{seen_of, entry_in, Stands}
-use Rattle.walk.specs.Code.{slot_in, put_in, more_in}
+use Rattle.walk.specs.Code.{put_in, more_in}
 use Rattle.walk.specs.declared.Seen.{Seen}
 use Rattle.layout.specs.declared.Profile.{Profile}
 use Rattle.layout.proofs.Profiles.{eleven_unknown}

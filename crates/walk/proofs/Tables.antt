@@ -13,8 +13,8 @@ use lib.Dec.{eqb}
 use lib.ListN.{length, get_or}
 use Rattle.layout.specs.Profile.{asks_of, is_final, shape_in, knows, allows}
 use Rattle.layout.specs.declared.Profile.{Profile}
-use Rattle.layout.proofs.Profiles.{knows_below, eleven_unknown}
-use Rattle.walk.specs.Walk.{Act, ends, refuses, Reader}
+use Rattle.layout.proofs.Profiles.{knows_below}
+use Rattle.walk.specs.Walk.{Act, ends, refuses}
 use Rattle.walk.specs.Table.{meaning, act_by, table_reader}
 use Rattle.walk.specs.Rules.{Rules, rule_act, act_at, once_at, reader_of}
 use Rattle.nts.specs.Refusal.{nothing}

@@ -1,7 +1,7 @@
 -- A finding says what the cells and the walk say, both ways: the cells that stand for the records met are the finding's, and the finding's stand for
 -- them.
 -- Assumes nothing.
-use mathlib.Core.Path.{◌≡◌, refl, sym, ap, ◌∙◌, subst}
+use mathlib.Core.Path.{◌≡◌, refl, sym, ap, ◌∙◌}
 use mathlib.Core.List.{List, [], ◌∷◌, map}
 use mathlib.Core.Bool.{Bool, true, false, cond, ◌&&◌, true≢false}
 use borrow.Author.Tests.{eqb-false, ne_eqb}

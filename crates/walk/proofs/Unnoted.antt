@@ -1,16 +1,15 @@
 -- A kind of which a reader notes no record: none of it is noted by a walk.
 -- Assumes nothing.
 use mathlib.Core.Path.{◌≡◌, refl, sym, ap, ◌∙◌}
-use mathlib.Core.List.{List, [], ◌∷◌, ◌++◌, append-nil}
-use mathlib.Core.Bool.{Bool, true, false, cond, ◌&&◌}
+use mathlib.Core.List.{List, [], ◌∷◌, append-nil}
+use mathlib.Core.Bool.{Bool, true, false}
 use mathlib.Core.Logic.{⊎_elim}
 use Prim.Native.Nat.{ℕ, zero, suc, ◌+◌}
 use native.Mathlib.Omega.{arith}
 use lib.Dec.{eqb}
 use borrow.Author.Tests.{eqb-true}
-use Rattle.nts.specs.Refusal.{nothing}
 use Rattle.record.specs.Record.{kind, critical, size, there}
-use Rattle.walk.specs.Walk.{Act, ends, passes, notes, refuses, Reader, Sighting, Outcome, stopped, ended, Step, stops, goes, has, meet, judge, step, act_in, walk}
+use Rattle.walk.specs.Walk.{Act, ends, passes, notes, refuses, Reader, Sighting, Outcome, ended, Step, stops, goes, meet, judge, step, act_in, walk}
 use Rattle.walk.specs.Judge.{of_kind}
 use Rattle.walk.proofs.Noted.{Went, step_went, step_ended, kind_append}
 

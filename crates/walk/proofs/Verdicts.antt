@@ -6,7 +6,6 @@ use mathlib.Core.Bool.{Bool, true, false, cond}
 use Prim.Native.Nat.{ℕ, ◌+◌, ◌≤◌}
 use native.Mathlib.Omega.{arith}
 use lib.ListN.{length, take, length-take}
-use Rattle.nts.specs.Refusal.{nothing}
 use Rattle.walk.specs.Walk.{Reader, Sighting, Outcome, stopped, ended, walked}
 use Rattle.walk.specs.Judge.{Verdict, no, yes, Under, Judge, of_kind, some, with_first, body_in, accepted, placed, finish, read_as}
 use Rattle.walk.proofs.Behind.{walked_ended}

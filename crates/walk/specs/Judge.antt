@@ -1,6 +1,6 @@
 -- The decision after the end record, as a function of the bodies found, by kind; and a whole reader: 01, "From records to a request", "After
 -- the end", and "Choosing and replying". It is generic over what shows a body, so that it cannot look at a place.
-use Rattle.std.specs.Prelude.{ℕ, List, [], ◌∷◌, Bool, true, false, cond, length, take, drop, eqb}
+use Rattle.std.specs.Prelude.{ℕ, List, [], ◌∷◌, Bool, true, false, cond, take, drop, eqb}
 use Rattle.nts.specs.Refusal.{Beside, Refused}
 use Rattle.layout.specs.declared.Part.{Part}
 use Rattle.layout.specs.declared.Profile.{Profile}

@@ -3,7 +3,7 @@
 use Rattle.std.specs.Prelude.{ℕ, zero, suc, ◌/◌, ◌%◌, ◌^◌, List, [], ◌∷◌, Bool, true, false, cond, eqb}
 use Rattle.std.specs.Int.Bits.{bit_or}
 use Rattle.record.specs.Record.{kind}
-use Rattle.walk.specs.Walk.{Reader, Sighting, Outcome, stopped, ended, Step, stops, goes, step}
+use Rattle.walk.specs.Walk.{Reader, Sighting, stopped, ended, Step, stops, goes, step}
 use Rattle.walk.specs.Shown.{slot_of}
 use Rattle.walk.specs.declared.Passed.{Passed}
 use Rattle.walk.specs.declared.Passed.TheVariants as passed

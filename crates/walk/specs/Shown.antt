@@ -4,7 +4,7 @@ use Rattle.std.specs.Prelude.{ℕ, zero, suc, ◌+◌, List, [], ◌∷◌, Bool
 use Rattle.record.specs.Record.{kind, critical, size}
 use Rattle.layout.specs.Table.{is_unknown_shape}
 use Rattle.layout.specs.declared.Shape.{Shape}
-use Rattle.walk.specs.Walk.{Reader, Sighting, Step, stops, goes, step, fault_in}
+use Rattle.walk.specs.Walk.{Reader, Sighting, stops, goes, step, fault_in}
 
 pub record Mark : Type 0 where
   pub place : ℕ

@@ -1,6 +1,6 @@
 -- The walk over a message, once for every reader: 01, "From records to a request" and "Choosing and replying": read through the first end
 -- record; the first fault in record order is the one told, at the place of its record; and then what follows the end: it is not looked at, or, 02, order 5, none may.
-use Rattle.std.specs.Prelude.{ℕ, zero, suc, ◌+◌, ◌≡◌, List, [], ◌∷◌, ◌++◌, Bool, true, false, cond, ◌&&◌, ◌||◌, length, take, ltb, eqb}
+use Rattle.std.specs.Prelude.{ℕ, zero, suc, ◌+◌, ◌≡◌, List, [], ◌∷◌, ◌++◌, Bool, false, cond, ◌&&◌, ◌||◌, length, take, ltb, eqb}
 use Rattle.std.specs.Borrow.{Bor}
 use Rattle.nts.specs.Refusal.{Beside, nothing, Refused}
 use Rattle.layout.specs.declared.Shape.{Shape}

@@ -9,10 +9,10 @@ use Rattle.writing.proofs.ntske_write_error.Reads as write_error
 use Rattle.writing.proofs.ntske_write_support_reply.Reads as write_support_reply
 use Rattle.writing.proofs.ntske_support_reply_length.Reads as support_reply_length
 use Rattle.writing.proofs.ntske_write_request.Reads as write_request
-use Rattle.writing.proofs.ntske_request_length.Reads as request_length_lem
+use Rattle.writing.proofs.ntske_request_length.Reads as request_length
 use Rattle.writing.proofs.ntske_append_denied.Reads as append_denied
 use Rattle.writing.proofs.ntske_write_record.Reads as write_record
-use Rattle.writing.proofs.ntske_record_length.Reads as record_length_lem
+use Rattle.writing.proofs.ntske_record_length.Reads as record_length
 
 pub ntske_write_no_protocol_same : (κs : _) (a : _) (r r' : _) (e e' : _) → write_no_protocol.Learnt κs a r e → write_no_protocol.Learnt κs a r' e' → (r ≡ r') × (e.0.now ≡ e'.0.now) × (e.1.0.now ≡ e'.1.0.now)
 ntske_write_no_protocol_same κs a r r' e e' p q = writes_same p q
@@ -32,7 +32,7 @@ ntske_support_reply_length_same κs a r r' e e' p q = gives_same p q
 pub ntske_write_request_same : (κs : _) (a : _) (r r' : _) (e e' : _) → write_request.Learnt κs a r e → write_request.Learnt κs a r' e' → (r ≡ r') × (e.1.1.1.1.0.now ≡ e'.1.1.1.1.0.now) × (e.1.1.1.1.1.0.now ≡ e'.1.1.1.1.1.0.now)
 ntske_write_request_same κs a r r' e e' p q = writes_same p q
 
-pub ntske_request_length_same : (κs : _) (a : _) (r r' : _) (e e' : _) → request_length_lem.Learnt κs a r e → request_length_lem.Learnt κs a r' e' → (r ≡ r') × (e.1.1.1.1.0.now ≡ e'.1.1.1.1.0.now)
+pub ntske_request_length_same : (κs : _) (a : _) (r r' : _) (e e' : _) → request_length.Learnt κs a r e → request_length.Learnt κs a r' e' → (r ≡ r') × (e.1.1.1.1.0.now ≡ e'.1.1.1.1.0.now)
 ntske_request_length_same κs a r r' e e' p q = gives_same p q
 
 pub ntske_append_denied_same : (κs : _) (a : _) (r r' : _) (e e' : _) → append_denied.Learnt κs a r e → append_denied.Learnt κs a r' e' → (r ≡ r') × (e.1.0.now ≡ e'.1.0.now) × (e.1.1.0.now ≡ e'.1.1.0.now)
@@ -41,5 +41,5 @@ ntske_append_denied_same κs a r r' e e' p q = (p.gives.says ∙ sym q.gives.say
 pub ntske_write_record_same : (κs : _) (a : _) (r r' : _) (e e' : _) → write_record.Learnt κs a r e → write_record.Learnt κs a r' e' → (r ≡ r') × (e.1.1.0.now ≡ e'.1.1.0.now) × (e.1.1.1.0.now ≡ e'.1.1.1.0.now)
 ntske_write_record_same κs a r r' e e' p q = writes_same p q
 
-pub ntske_record_length_same : (κs : _) (a : _) (r r' : _) (e e' : _) → record_length_lem.Learnt κs a r e → record_length_lem.Learnt κs a r' e' → (r ≡ r') × (e.1.1.0.now ≡ e'.1.1.0.now)
+pub ntske_record_length_same : (κs : _) (a : _) (r r' : _) (e e' : _) → record_length.Learnt κs a r e → record_length.Learnt κs a r' e' → (r ≡ r') × (e.1.1.0.now ≡ e'.1.1.0.now)
 ntske_record_length_same κs a r r' e e' p q = gives_same p q

@@ -22,8 +22,7 @@ enum Given {
 }
 
 // Writes the reply that no protocol is agreed on: 10.
-#[unsafe(no_mangle)]
-pub extern "C" fn ntske_write_no_protocol(out: &mut [u8], written: &mut [usize; 1]) -> u64
+pub fn ntske_write_no_protocol(out: &mut [u8], written: &mut [usize; 1]) -> u64
     ensures { Writes (fitted (length out.old) (bytes 8)) (message_of no_protocol_records) out.old written.old result out.new written.new }
 {
     let answer = declining::write_no_protocol(out);
@@ -31,12 +30,7 @@ pub extern "C" fn ntske_write_no_protocol(out: &mut [u8], written: &mut [usize; 
 }
 
 // Writes the reply that no algorithm is agreed on, with the protocol: 10.
-#[unsafe(no_mangle)]
-pub extern "C" fn ntske_write_no_algorithm(
-    protocol: u16,
-    out: &mut [u8],
-    written: &mut [usize; 1],
-) -> u64
+pub fn ntske_write_no_algorithm(protocol: u16, out: &mut [u8], written: &mut [usize; 1]) -> u64
     ensures { Writes (fitted (length out.old) (bytes 14)) (message_of (no_algorithm_records protocol)) out.old written.old result out.new written.new }
 {
     let answer = declining::write_no_algorithm(NextProtocol(protocol), out);
@@ -44,8 +38,7 @@ pub extern "C" fn ntske_write_no_algorithm(
 }
 
 // Writes the reply that tells an error: 10.
-#[unsafe(no_mangle)]
-pub extern "C" fn ntske_write_error(code: u16, out: &mut [u8], written: &mut [usize; 1]) -> u64
+pub fn ntske_write_error(code: u16, out: &mut [u8], written: &mut [usize; 1]) -> u64
     ensures { Writes (fitted (length out.old) (bytes 10)) (message_of (error_records code)) out.old written.old result out.new written.new }
 {
     let answer = declining::write_error(ErrorCode(code), out);
@@ -54,8 +47,7 @@ pub extern "C" fn ntske_write_error(code: u16, out: &mut [u8], written: &mut [us
 
 // Writes a support reply: 1 for algorithms, 2 for protocols, 4 for keep-alive, and their sums. 9 for another number or an odd number of cells of
 // pairs, then 8 for a list that is to be written, then 10.
-#[unsafe(no_mangle)]
-pub extern "C" fn ntske_write_support_reply(
+pub fn ntske_write_support_reply(
     asked: u8,
     pairs: &[u16],
     protocols: &[u16],
@@ -73,8 +65,7 @@ pub extern "C" fn ntske_write_support_reply(
 }
 
 // Its exact length, with the writer's 9 and 8.
-#[unsafe(no_mangle)]
-pub extern "C" fn ntske_support_reply_length(
+pub fn ntske_support_reply_length(
     asked: u8,
     pairs: &[u16],
     protocols: &[u16],
@@ -90,8 +81,7 @@ pub extern "C" fn ntske_support_reply_length(
 }
 
 // Writes a key-exchange request with the names of a tray: 9 for a broken tray or a name that is not UTF-8, then 8, then 10.
-#[unsafe(no_mangle)]
-pub extern "C" fn ntske_write_request(
+pub fn ntske_write_request(
     protocols: &[u16],
     algorithms: &[u16],
     tray: &[u8],
@@ -107,8 +97,7 @@ pub extern "C" fn ntske_write_request(
 }
 
 // Its exact length, with the writer's 9 and 8.
-#[unsafe(no_mangle)]
-pub extern "C" fn ntske_request_length(
+pub fn ntske_request_length(
     protocols: &[u16],
     algorithms: &[u16],
     tray: &[u8],
@@ -123,8 +112,7 @@ pub extern "C" fn ntske_request_length(
 
 // Appends a denied name to a request's tray, of which one cell holds the used length: 9 for a broken tray and for a name that is not UTF-8, then 8, then 10 for no
 // room. Only the bytes of the field that is added change.
-#[unsafe(no_mangle)]
-pub extern "C" fn ntske_append_denied(name: &[u8], tray: &mut [u8], used: &mut [usize; 1]) -> u64
+pub fn ntske_append_denied(name: &[u8], tray: &mut [u8], used: &mut [usize; 1]) -> u64
     ensures { DeniesTo used.old name.now tray.old result used.new tray.new }
 {
     let answer = plan::append_denied(name, tray, used[0]);
@@ -133,8 +121,7 @@ pub extern "C" fn ntske_append_denied(name: &[u8], tray: &mut [u8], used: &mut [
 
 // Writes one record, told by seven cells as the reader of one record gives them; its parts lie in the source. 9 for cells that hold no record and for
 // what is none by document 01, then 8, then 10.
-#[unsafe(no_mangle)]
-pub extern "C" fn ntske_write_record(
+pub fn ntske_write_record(
     item: &[usize; 7],
     source: &[u8],
     out: &mut [u8],
@@ -152,12 +139,7 @@ pub extern "C" fn ntske_write_record(
 }
 
 // Its exact length, with the writer's 9 and 8.
-#[unsafe(no_mangle)]
-pub extern "C" fn ntske_record_length(
-    item: &[usize; 7],
-    source: &[u8],
-    length: &mut [usize; 1],
-) -> u64
+pub fn ntske_record_length(item: &[usize; 7], source: &[u8], length: &mut [usize; 1]) -> u64
     ensures { Gives (counted (held_length (record_in item.now) source.now)) length.old result length.new }
 {
     let given = record_in(item);

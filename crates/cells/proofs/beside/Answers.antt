@@ -1,7 +1,6 @@
 -- `cells::beside` meets its contract: each arm knows what is beside the refusal.
 use mathlib.Core.Path.{sym, ap, ◌∙◌}
 use Rattle.nts.specs.Refusal.{told_code, beside_number}
-use borrow.Author.Rules.{rules}
 use Rattle.cells.proofs.beside.Goals as goal
 
 pub returns-in-None : goal.returns-in-None

@@ -1,6 +1,5 @@
 -- `cells::give_count` meets its contract: each arm knows what the call answered.
 use mathlib.Core.Path.{refl}
-use borrow.Author.Rules.{rules}
 use Rattle.cells.proofs.give_count.Goals as goal
 
 pub returns-in-Bytes : goal.returns-in-Bytes

@@ -1,5 +1,4 @@
 -- `cells::mark` meets its contract: it adds up what the definition adds up, of eight bits each.
-use borrow.Author.Rules.{rules}
 use Rattle.cells.proofs.mark.Goals as goal
 
 pub returns : goal.returns

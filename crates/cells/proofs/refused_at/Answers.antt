@@ -1,5 +1,4 @@
 -- `cells::refused_at` meets its contract: it adds up what the definition adds up, of sixteen, sixteen and thirty-two bits.
-use borrow.Author.Rules.{rules}
 use Rattle.cells.proofs.Lent.{adds_up}
 use Rattle.cells.proofs.refused_at.Goals as goal
 

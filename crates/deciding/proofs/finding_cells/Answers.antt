@@ -1,8 +1,7 @@
 -- `deciding::finding_cells` meets its contract: the loop's invariant is that the cells copied are what was found, and the first three stay.
 use borrow.Author.Rules.{rules}
 use mathlib.Core.Path.{refl, ◌∙◌}
-use Prim.Native.Nat.{◌-◌}
-use Rattle.deciding.proofs.Copying.{Putting, putting_start, putting_on, putting_end, place_by}
+use Rattle.deciding.proofs.Copying.{putting_start, putting_on, putting_end, place_by}
 use Rattle.deciding.proofs.finding_cells.Goals as goal
 
 pub overflow_cast-cells : goal.overflow_cast-cells

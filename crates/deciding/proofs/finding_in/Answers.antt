@@ -1,9 +1,8 @@
 -- `deciding::finding_in` meets its contract: the loop's invariant is that what was copied are the cells behind the first three.
 use borrow.Author.Rules.{rules}
 use mathlib.Core.Path.{refl}
-use Prim.Native.Nat.{◌-◌}
 use Rattle.cells.specs.Cells.{cell}
-use Rattle.deciding.proofs.Copying.{Copying, copying_start, copying_in, copying_end}
+use Rattle.deciding.proofs.Copying.{copying_start, copying_in, copying_end}
 use Rattle.deciding.proofs.finding_in.Goals as goal
 
 pub loop-i-init : goal.loop-i-init

@@ -1,6 +1,5 @@
 -- `deciding::ntske_decide_request` meets its contract: 9 for a reason that no walk has, and otherwise what is decided from the finding that the cells tell; a
 -- refusal's place is not past a limit of sixteen bits.
-use borrow.Author.Rules.{rules}
 use mathlib.Core.Path.{refl, sym, ap, ◌∙◌}
 use native.Mathlib.Omega.{arith}
 use Rattle.request.specs.Request.{told_answer}

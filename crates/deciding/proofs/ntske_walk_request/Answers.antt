@@ -1,5 +1,4 @@
 -- `deciding::ntske_walk_request` meets its contract: the cells of what the walk found, whose place is not past a limit of sixteen bits.
-use borrow.Author.Rules.{rules}
 use mathlib.Core.Path.{refl, ap, ◌∙◌}
 use native.Mathlib.Omega.{arith}
 use Rattle.deciding.specs.Given.{finding_cells}

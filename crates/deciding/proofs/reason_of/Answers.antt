@@ -1,5 +1,4 @@
 -- `deciding::reason_of` meets its contract: each arm knows how the walk stopped.
-use borrow.Author.Rules.{rules}
 use Rattle.deciding.proofs.reason_of.Goals as goal
 
 pub returns-in-End : goal.returns-in-End

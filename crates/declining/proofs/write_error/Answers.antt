@@ -1,9 +1,7 @@
 -- `declining::write_error` meets its contract: the end record is put behind the error.
-use borrow.Author.Rules.{rules}
 use mathlib.Core.Path.{refl}
 use native.Mathlib.Omega.{arith}
 use Rattle.wire.proofs.Over.{put_as, try_then}
-use mathlib.Core.List.{[]}
 use Rattle.wire.specs.Over.{bytes_of}
 use Rattle.messages.specs.Messages.{record_with, end_record}
 use Rattle.layout.specs.Table.{row_of, bit_of}

@@ -1,5 +1,4 @@
 -- `declining::write_no_algorithm` meets its contract: each record is put into what the last left of the output.
-use borrow.Author.Rules.{rules}
 use mathlib.Core.Path.{refl}
 use native.Mathlib.Omega.{arith}
 use Rattle.wire.proofs.Over.{put_as, try_then}

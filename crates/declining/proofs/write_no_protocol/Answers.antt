@@ -1,10 +1,8 @@
 -- `declining::write_no_protocol` meets its contract: the end record is put behind the empty list.
-use borrow.Author.Rules.{rules}
 use mathlib.Core.Path.{refl}
 use native.Mathlib.Omega.{arith}
 use Rattle.wire.proofs.Over.{put_as, try_then}
 use mathlib.Core.List.{[]}
-use Rattle.wire.specs.Over.{bytes_of}
 use Rattle.messages.specs.Messages.{record_with, end_record}
 use Rattle.layout.specs.Table.{row_of, bit_of}
 use Rattle.layout.specs.Write.{word_of}

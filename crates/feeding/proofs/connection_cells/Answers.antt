@@ -1,5 +1,4 @@
 -- `feeding::connection_cells` meets its contract: each arm knows whether there is an answer.
-use borrow.Author.Rules.{rules}
 use Rattle.feeding.proofs.connection_cells.Goals as goal
 
 pub returns-in-Pending : goal.returns-in-Pending

@@ -1,6 +1,5 @@
 -- `feeding::connection_in` meets its contract: where the cells are a connection's, each is read whole.
-use borrow.Author.Rules.{rules}
-use mathlib.Core.Path.{sym, ap, ◌∙◌}
+use mathlib.Core.Path.{sym, ◌∙◌}
 use native.Mathlib.Omega.{arith}
 use Rattle.feeding.specs.Code.{kept_in}
 use Rattle.feeding.proofs.Holding.{line_sound}

@@ -1,5 +1,4 @@
 -- `feeding::fed_request` meets its contract: the connection that the cells hold is handed on, and what comes of it is put; a refusal's place has thirty-two bits.
-use borrow.Author.Rules.{rules}
 use mathlib.Core.Path.{refl, sym, ap, ◌∙◌}
 use Rattle.request.specs.Request.{refused_with}
 use Rattle.pieces.specs.Reads.{request_read, told_request}

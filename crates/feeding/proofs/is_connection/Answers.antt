@@ -1,5 +1,4 @@
 -- `feeding::is_connection` meets its contract: the tests are those of the definition.
-use borrow.Author.Rules.{rules}
 use Rattle.feeding.specs.Fed.{is_connection}
 use Rattle.feeding.proofs.is_connection.Goals as goal
 

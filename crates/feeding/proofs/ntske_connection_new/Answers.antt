@@ -1,5 +1,4 @@
 -- `feeding::ntske_connection_new` meets its contract: the cells of the connection that was started.
-use borrow.Author.Rules.{rules}
 use mathlib.Core.Path.{refl, ap, ◌∙◌}
 use Rattle.feeding.specs.Fed.{line_cells}
 use Rattle.feeding.proofs.ntske_connection_new.Goals as goal

@@ -1,8 +1,4 @@
 -- `feeding::state_in` meets its contract: a refusal has its number, so the one that is found for it has that number.
-use borrow.Author.Rules.{rules}
-use borrow.Author.Tests.{ne_eqb}
-use mathlib.Core.Path.{ap}
-use Rattle.pieces.specs.Pieces.{refused}
 use Rattle.feeding.proofs.Holding.{standing_sound, standing_refusing, standing_refusal}
 use Rattle.feeding.proofs.state_in.Goals as goal
 

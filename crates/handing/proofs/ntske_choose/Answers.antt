@@ -3,7 +3,6 @@ use mathlib.Core.Path.{refl, sym, ap, ◌∙◌}
 use Rattle.negotiation.specs.Negotiation.{told_choice}
 use Rattle.handing.specs.Handed.{choice_given}
 use Rattle.cells.proofs.Lent.{given}
-use borrow.Author.Rules.{rules}
 use Rattle.handing.proofs.ntske_choose.Goals as goal
 
 pub returns-in-Chosen : goal.returns-in-Chosen

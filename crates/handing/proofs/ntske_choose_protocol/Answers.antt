@@ -3,7 +3,6 @@ use mathlib.Core.Path.{refl, sym, ap, ◌∙◌}
 use Rattle.negotiation.specs.Negotiation.{told_protocol}
 use Rattle.handing.specs.Handed.{protocol_given}
 use Rattle.cells.proofs.Lent.{given}
-use borrow.Author.Rules.{rules}
 use Rattle.handing.proofs.ntske_choose_protocol.Goals as goal
 
 pub returns-in-Chosen : goal.returns-in-Chosen

@@ -3,7 +3,6 @@ use mathlib.Core.Path.{refl, sym, ap, ◌∙◌}
 use Rattle.nts.specs.Algorithm.{told_description}
 use Rattle.handing.specs.Handed.{key_given}
 use Rattle.cells.proofs.Lent.{given}
-use borrow.Author.Rules.{rules}
 use Rattle.handing.proofs.ntske_key_length.Goals as goal
 
 pub returns-in-Known : goal.returns-in-Known

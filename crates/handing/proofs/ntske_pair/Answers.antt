@@ -4,7 +4,6 @@ use Rattle.record.specs.Told.{told_pair}
 use Rattle.handing.specs.Handed.{number_cells}
 use Rattle.cells.specs.Cells.{cells}
 use Rattle.cells.proofs.Lent.{given}
-use borrow.Author.Rules.{rules}
 use Rattle.handing.proofs.ntske_pair.Goals as goal
 
 pub returns-in-Description : goal.returns-in-Description

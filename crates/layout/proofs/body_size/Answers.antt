@@ -1,7 +1,6 @@
 -- `layout::body_size` meets its contract: the test is the definition's.
 use mathlib.Core.Path.{sym, ◌∙◌}
 use Rattle.layout.specs.Write.{body_size}
-use borrow.Author.Rules.{rules}
 use Rattle.layout.proofs.body_size.Goals as goal
 
 pub returns-then-is_number : goal.returns-then-is_number

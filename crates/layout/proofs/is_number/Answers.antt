@@ -1,6 +1,5 @@
 -- `layout::is_number` meets its contract: each arm knows what the body holds, and the definition computes at it.
 use Rattle.layout.specs.Write.{is_number}
-use borrow.Author.Rules.{rules}
 use Rattle.layout.proofs.is_number.Goals as goal
 
 pub returns-in-Skipped : goal.returns-in-Skipped

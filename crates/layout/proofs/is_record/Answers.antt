@@ -2,7 +2,6 @@
 use mathlib.Core.Path.{sym, ◌∙◌}
 use borrow.Author.Tests.{le-leb, lt-leb}
 use Rattle.layout.specs.Write.{is_record}
-use borrow.Author.Rules.{rules}
 use Rattle.layout.proofs.is_record.Goals as goal
 
 pub returns-then-layout-gt-KIND_BITS : goal.returns-then-layout-gt-KIND_BITS

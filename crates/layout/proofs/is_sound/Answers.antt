@@ -2,7 +2,6 @@
 use mathlib.Core.Path.{ap, ◌∙◌}
 use Rattle.utf8.specs.Utf8.{well_formed}
 use Rattle.layout.specs.Write.{is_sound}
-use borrow.Author.Rules.{rules}
 use Rattle.layout.proofs.is_sound.Goals as goal
 
 pub returns-in-Skipped : goal.returns-in-Skipped

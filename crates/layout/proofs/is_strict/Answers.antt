@@ -1,9 +1,6 @@
 -- `layout::is_strict` meets its contract: each arm knows the kind, and the profile's table computes at it.
-use mathlib.Core.Path.{refl, sym, ◌∙◌}
-use mathlib.Core.Bool.{Bool, true, false, ◌&&◌, and-true}
-use borrow.Author.Rules.{rules}
-use lib.ListN.{length}
-use lib.Dec.{eqb}
+use mathlib.Core.Path.{sym}
+use mathlib.Core.Bool.{and-true}
 use Rattle.layout.specs.Profile.{asks_of, allows}
 use Rattle.layout.proofs.Profiles.{critical_allows, strict_allows}
 use Rattle.layout.proofs.is_strict.Goals as goal

@@ -1,7 +1,6 @@
 -- `layout::put_body` meets its contract: a number is put alone, and of two parts the second into the rest of the output.
 use mathlib.Core.Path.{sym, ◌∙◌}
 use Rattle.layout.proofs.Writing.{put_number_body, put_parts_body}
-use borrow.Author.Rules.{rules}
 use Rattle.layout.proofs.put_body.Goals as goal
 
 pub returns-then-is_number : goal.returns-then-is_number

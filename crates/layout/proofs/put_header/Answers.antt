@@ -2,7 +2,6 @@
 use native.Mathlib.Omega.{arith}
 use Rattle.layout.specs.Write.{header}
 use Rattle.wire.proofs.Over.{try_then, tried_not, tried_put}
-use borrow.Author.Rules.{rules}
 use Rattle.layout.proofs.put_header.Goals as goal
 
 pub returns-then-out-lt-HEADER : goal.returns-then-out-lt-HEADER

@@ -2,7 +2,6 @@
 use native.Mathlib.Omega.{arith}
 use Rattle.wire.proofs.Over.{rest_room}
 use Rattle.layout.proofs.Writing.{sound, parts_fit, put_record}
-use borrow.Author.Rules.{rules}
 use Rattle.layout.proofs.put_layout.Goals as goal
 
 pub word_of-word-requires : goal.word_of-word-requires

@@ -1,6 +1,5 @@
 -- `layout::word_of` meets its contract: the top bit of a number of fifteen bits is free, so that the sum fits.
 use Rattle.layout.specs.Write.{word_of}
-use borrow.Author.Rules.{rules}
 use Rattle.layout.proofs.word_of.Goals as goal
 
 pub returns-then-critical : goal.returns-then-critical

@@ -1,7 +1,6 @@
 -- `listing::line_at` meets its contract: a record that reads has a line, and others follow it where the walk goes on.
 use mathlib.Core.Path.{sym, ap, ◌∙◌}
 use native.Mathlib.Omega.{arith}
-use borrow.Author.Rules.{rules}
 use Rattle.record.specs.Told.{told_looked}
 use Rattle.record.proofs.Read.{look_inside}
 use Rattle.listing.proofs.Lines.{line_none, line_last, line_more}

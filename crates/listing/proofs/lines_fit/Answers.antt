@@ -1,10 +1,7 @@
 -- `listing::lines_fit` meets its contract. The loop's invariant: what the lines passed so far took of the room is their length. The measure
 -- is what is left of the message.
-use Prim.Native.Nat.{◌-◌}
 use native.Mathlib.Omega.{arith}
-use borrow.Author.Rules.{rules}
-use lib.ListN.{length}
-use Rattle.listing.proofs.Passes.{Fitting, fitting_start, fits_none, fits_last, fits_not, fits_on}
+use Rattle.listing.proofs.Passes.{fitting_start, fits_none, fits_last, fits_not, fits_on}
 use Rattle.listing.proofs.lines_fit.Goals as goal
 
 pub loop-x-init : goal.loop-x-init

@@ -1,7 +1,6 @@
 -- `listing::list` meets its contract: the last line is made first, and nothing is written unless all of it fits; lines and answer are of the walk
 -- that `judge` made.
 use mathlib.Core.Path.{refl, sym, ◌∙◌}
-use borrow.Author.Rules.{rules}
 use Rattle.listing.proofs.Whole.{list_stop, list_short, list_long, list_room, list_put}
 use Rattle.listing.proofs.list.Goals as goal
 

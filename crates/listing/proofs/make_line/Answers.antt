@@ -1,7 +1,6 @@
 -- `listing::make_line` meets its contract: the place, and what stands behind it.
 use native.Mathlib.Omega.{arith}
 use Rattle.listing.proofs.Texts.{most_as, most_then, line_text}
-use borrow.Author.Rules.{rules}
 use Rattle.listing.proofs.make_line.Goals as goal
 
 pub returns : goal.returns

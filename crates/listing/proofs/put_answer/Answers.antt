@@ -2,7 +2,6 @@
 use mathlib.Core.Path.{refl}
 use native.Mathlib.Omega.{arith}
 use Rattle.listing.proofs.Texts.{most, most_as}
-use borrow.Author.Rules.{rules}
 use Rattle.listing.proofs.put_answer.Goals as goal
 
 pub returns-in-KeyExchange : goal.returns-in-KeyExchange

@@ -1,6 +1,5 @@
 -- `listing::put_code` meets its contract: nothing, or the code behind its text.
 use Rattle.listing.proofs.Texts.{put_none}
-use borrow.Author.Rules.{rules}
 use Rattle.listing.proofs.put_code.Goals as goal
 
 pub returns-in-None : goal.returns-in-None

@@ -1,7 +1,6 @@
 -- `listing::put_exchange` meets its contract: three numbers, each behind its text, one after the other.
 use native.Mathlib.Omega.{arith}
 use Rattle.listing.proofs.Texts.{most_as, most_then, exchange_text}
-use borrow.Author.Rules.{rules}
 use Rattle.listing.proofs.put_exchange.Goals as goal
 
 pub returns : goal.returns

@@ -1,7 +1,6 @@
 -- `listing::put_field` meets its contract: the digits go into what the text leaves of the output.
 use native.Mathlib.Omega.{arith}
 use Rattle.listing.proofs.Texts.{most, most_rest, most_then}
-use borrow.Author.Rules.{rules}
 use Rattle.listing.proofs.put_field.Goals as goal
 
 pub put_digits-requires : goal.put_digits-requires

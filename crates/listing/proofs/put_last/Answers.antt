@@ -1,6 +1,5 @@
 -- `listing::put_last` meets its contract: a newline behind the answer's text.
 use Rattle.listing.proofs.Texts.{most, most_rest, most_then}
-use borrow.Author.Rules.{rules}
 use Rattle.listing.proofs.put_last.Goals as goal
 
 pub returns : goal.returns

@@ -1,6 +1,5 @@
 -- `listing::put_line` meets its contract: the line is made in an array and copied.
 use Rattle.listing.proofs.Texts.{copied}
-use borrow.Author.Rules.{rules}
 use Rattle.listing.proofs.put_line.Goals as goal
 
 pub returns : goal.returns

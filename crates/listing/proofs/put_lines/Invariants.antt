@@ -1,10 +1,8 @@
 -- `listing::put_lines` meets its contract. The loop's invariant: what is written so far, with the lines from here on, is all the lines.
 -- The measure is what is left of the message.
 use Prim.Native.Nat.{◌-◌}
-use native.Mathlib.Omega.{arith}
-use borrow.Author.Rules.{rules}
 use lib.ListN.{length}
-use Rattle.listing.proofs.Passes.{Writing, writing_start, writing_none, writing_last, writing_on}
+use Rattle.listing.proofs.Passes.{Writing}
 use Rattle.listing.proofs.put_lines.Given as goal
 
 abbrev pub invariant-loop-x : goal.invariant-loop-x

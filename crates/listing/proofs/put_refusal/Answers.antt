@@ -1,7 +1,6 @@
 -- `listing::put_refusal` meets its contract: number, place and what is returned beside them, one after the other.
 use native.Mathlib.Omega.{arith}
 use Rattle.listing.proofs.Texts.{most_as, most_then, refusal_text}
-use borrow.Author.Rules.{rules}
 use Rattle.listing.proofs.put_refusal.Goals as goal
 
 pub returns : goal.returns

@@ -1,7 +1,6 @@
 -- `listing::put_row` meets its contract: kind, bit and size, and the newline, one after the other.
 use native.Mathlib.Omega.{arith}
 use Rattle.listing.proofs.Texts.{most, most_as, most_rest, most_then, row_text_lem}
-use borrow.Author.Rules.{rules}
 use Rattle.listing.proofs.put_row.Goals as goal
 
 pub returns : goal.returns

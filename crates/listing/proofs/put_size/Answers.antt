@@ -1,5 +1,4 @@
 -- `listing::put_size` meets its contract: the size behind the mark of the bit.
-use borrow.Author.Rules.{rules}
 use Rattle.listing.proofs.put_size.Goals as goal
 
 pub returns-then-critical : goal.returns-then-critical

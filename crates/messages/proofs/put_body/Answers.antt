@@ -1,5 +1,4 @@
 -- `messages::put_body` meets its contract: the body is put into what the header leaves of the output.
-use borrow.Author.Rules.{rules}
 use mathlib.Core.Path.{refl}
 use native.Mathlib.Omega.{arith}
 use Rattle.messages.proofs.Putting.{body_record, long_record, short_not, short_put}

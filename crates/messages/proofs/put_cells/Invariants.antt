@@ -1,9 +1,7 @@
 -- `messages::put_cells` meets its contract: the loop's invariant is that the first cells stand in the output.
-use borrow.Author.Rules.{rules}
-use native.Mathlib.Omega.{arith}
 use Prim.Native.Nat.{◌-◌}
 use lib.ListN.{length}
-use Rattle.messages.proofs.Putting.{Cells, cells_start, cells_end, cells_on, cells_place, cells_long, within_rest}
+use Rattle.messages.proofs.Putting.{Cells}
 use Rattle.messages.proofs.put_cells.Given as goal
 
 abbrev pub invariant-loop-i : goal.invariant-loop-i

@@ -1,5 +1,4 @@
 -- `messages::put_empty` meets its contract: a header of size 0 is the record.
-use borrow.Author.Rules.{rules}
 use Rattle.messages.proofs.Putting.{empty_record}
 use Rattle.messages.proofs.put_empty.Goals as goal
 

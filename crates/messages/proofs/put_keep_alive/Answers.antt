@@ -1,5 +1,4 @@
 -- `messages::put_keep_alive` meets its contract: the test is the definition's.
-use borrow.Author.Rules.{rules}
 use Rattle.layout.specs.Table.{row_of, bit_of}
 use Rattle.layout.specs.Write.{word_of}
 use Rattle.messages.proofs.Putting.{asked_record, not_asked}

@@ -1,5 +1,4 @@
 -- `messages::put_list` meets its contract: the cells are put into what the header leaves of the output.
-use borrow.Author.Rules.{rules}
 use mathlib.Core.Path.{sym, ◌∙◌}
 use native.Mathlib.Omega.{arith}
 use Prim.Native.Nat.{◌*◌}

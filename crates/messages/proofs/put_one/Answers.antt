@@ -1,5 +1,4 @@
 -- `messages::put_one` meets its contract: the number is put into what the header leaves of the output.
-use borrow.Author.Rules.{rules}
 use mathlib.Core.Path.{refl}
 use native.Mathlib.Omega.{arith}
 use Rattle.wire.specs.Over.{bytes_of}

@@ -1,10 +1,4 @@
 -- `messages::too_long` meets its contract: a body of two bytes a cell is longer than 65,535 exactly with more than 32,767 cells.
-use borrow.Author.Rules.{rules}
-use native.Mathlib.Omega.{arith}
-use mathlib.Core.Path.{◌≡◌, sym, ◌∙◌}
-use mathlib.Core.Bool.{Bool, true, false}
-use Prim.Native.Nat.{ℕ, ◌*◌}
-use lib.Dec.{ltb}
 use lib.ListN.{length}
 use Rattle.messages.proofs.Putting.{half_tested}
 use Rattle.messages.proofs.too_long.Goals as goal

@@ -3,7 +3,6 @@ use mathlib.Core.Path.{sym, ap, ◌∙◌}
 use mathlib.Core.Bool.{or-true}
 use Rattle.negotiation.specs.Negotiation.{choose, told_protocol}
 use Rattle.negotiation.proofs.Verdict.{judged}
-use borrow.Author.Rules.{rules}
 use Rattle.negotiation.proofs.choose.Goals as goal
 
 pub returns-then-is_odd : goal.returns-then-is_odd

@@ -2,7 +2,6 @@
 use mathlib.Core.Path.{sym, ap, ◌∙◌}
 use Rattle.negotiation.specs.Code.{told_first}
 use Rattle.negotiation.specs.Negotiation.{protocol_from, choose_protocol}
-use borrow.Author.Rules.{rules}
 use Rattle.negotiation.proofs.choose_protocol.Goals as goal
 
 pub returns-then-is_odd : goal.returns-then-is_odd

@@ -2,9 +2,7 @@
 -- how many bytes are left.
 use borrow.Author.Rules.{rules}
 use mathlib.Core.Path.{sym, ◌∙◌}
-use Prim.Native.Nat.{◌-◌}
-use lib.ListN.{length}
-use Rattle.negotiation.proofs.Searching.{Choosing, choosing_start, choosing_none, choosing_found, choosing_on}
+use Rattle.negotiation.proofs.Searching.{choosing_start, choosing_none, choosing_found, choosing_on}
 use Rattle.negotiation.proofs.first_common.Goals as goal
 
 pub loop-at-init : goal.loop-at-init

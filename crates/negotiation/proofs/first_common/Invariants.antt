@@ -1,10 +1,8 @@
 -- `negotiation::first_common` meets its contract: the loop's invariant is that the own list holds none of the numbers passed. The measure is
 -- how many bytes are left.
-use borrow.Author.Rules.{rules}
-use mathlib.Core.Path.{sym, ◌∙◌}
 use Prim.Native.Nat.{◌-◌}
 use lib.ListN.{length}
-use Rattle.negotiation.proofs.Searching.{Choosing, choosing_start, choosing_none, choosing_found, choosing_on}
+use Rattle.negotiation.proofs.Searching.{Choosing}
 use Rattle.negotiation.proofs.first_common.Given as goal
 
 abbrev pub invariant-loop-at : goal.invariant-loop-at

@@ -1,8 +1,6 @@
 -- `negotiation::has` meets its contract: the loop's invariant is that the numbers passed are others. The measure is how many are left.
 use borrow.Author.Rules.{rules}
-use Prim.Native.Nat.{◌-◌}
-use lib.ListN.{length}
-use Rattle.negotiation.proofs.Searching.{Seeking, seeking_start, seeking_none, seeking_found, seeking_on}
+use Rattle.negotiation.proofs.Searching.{seeking_start, seeking_none, seeking_found, seeking_on}
 use Rattle.negotiation.proofs.has.Goals as goal
 
 pub loop-i-init : goal.loop-i-init

@@ -1,8 +1,7 @@
 -- `negotiation::has` meets its contract: the loop's invariant is that the numbers passed are others. The measure is how many are left.
-use borrow.Author.Rules.{rules}
 use Prim.Native.Nat.{◌-◌}
 use lib.ListN.{length}
-use Rattle.negotiation.proofs.Searching.{Seeking, seeking_start, seeking_none, seeking_found, seeking_on}
+use Rattle.negotiation.proofs.Searching.{Seeking}
 use Rattle.negotiation.proofs.has.Given as goal
 
 abbrev pub invariant-loop-i : goal.invariant-loop-i

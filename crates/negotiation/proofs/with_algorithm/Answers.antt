@@ -2,7 +2,6 @@
 use mathlib.Core.Path.{sym, ap, ◌∙◌}
 use Rattle.negotiation.specs.Code.{told_first}
 use Rattle.negotiation.specs.Negotiation.{with_algorithm}
-use borrow.Author.Rules.{rules}
 use Rattle.negotiation.proofs.with_algorithm.Goals as goal
 
 pub returns-in-Number : goal.returns-in-Number

@@ -1,9 +1,7 @@
 -- `outgoing::are_utf8` meets its contract: the loop's invariant is that the bodies passed are UTF-8.
-use borrow.Author.Rules.{rules}
 use mathlib.Core.Path.{sym, ap, ◌∙◌}
-use Prim.Native.Nat.{◌-◌}
 use Rattle.utf8.specs.Utf8.{well_formed}
-use Rattle.outgoing.proofs.Judging.{Checking, checking_start, checking_end, checking_on, checking_stop}
+use Rattle.outgoing.proofs.Judging.{checking_start, checking_end, checking_on, checking_stop}
 use Rattle.outgoing.proofs.are_utf8.Goals as goal
 
 pub loop-at-init : goal.loop-at-init

@@ -1,5 +1,4 @@
 -- `outgoing::check_reply` meets its contract: each return is the definition's for what was found before it.
-use borrow.Author.Rules.{rules}
 use mathlib.Core.Path.{sym, ap, ◌∙◌}
 use Rattle.layout.specs.Write.{told_count}
 use Rattle.outgoing.proofs.Judging.{reply_broken, reply_other, reply_ill, reply_bare, reply_judged}

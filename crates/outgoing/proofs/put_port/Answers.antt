@@ -1,5 +1,4 @@
 -- `outgoing::put_port` meets its contract: each arm knows whether a port is planned.
-use borrow.Author.Rules.{rules}
 use Rattle.layout.specs.Table.{row_of, bit_of}
 use Rattle.layout.specs.Write.{word_of}
 use Rattle.outgoing.proofs.Laid.{port_record_lem, no_port}

@@ -1,10 +1,8 @@
 -- `outgoing::put_reply` meets its contract: each record is put into what the last left of the output.
-use borrow.Author.Rules.{rules}
-use mathlib.Core.Path.{◌≡◌, sym, ap, ◌∙◌}
+use mathlib.Core.Path.{sym, ap, ◌∙◌}
 use native.Mathlib.Omega.{arith}
 use mathlib.Core.List.{List, [], map}
-use Prim.Native.Nat.{ℕ, ◌+◌, ◌*◌}
-use lib.ListN.{length}
+use Prim.Native.Nat.{ℕ}
 use Rattle.wire.specs.Over.{bytes_of}
 use Rattle.wire.proofs.Over.{put_as, rest_room, put_then, try_then}
 use Rattle.layout.specs.Table.{row_of, bit_of}

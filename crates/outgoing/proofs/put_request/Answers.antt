@@ -1,5 +1,4 @@
 -- `outgoing::put_request` meets its contract: each record is put into what the last left of the output.
-use borrow.Author.Rules.{rules}
 use mathlib.Core.Path.{sym, ap, ◌∙◌}
 use native.Mathlib.Omega.{arith}
 use mathlib.Core.List.{List, map}

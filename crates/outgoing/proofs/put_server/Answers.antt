@@ -1,5 +1,4 @@
 -- `outgoing::put_server` meets its contract: each arm knows whether a name is planned.
-use borrow.Author.Rules.{rules}
 use native.Mathlib.Omega.{arith}
 use Rattle.layout.specs.Table.{row_of, bit_of}
 use Rattle.layout.specs.Write.{word_of}

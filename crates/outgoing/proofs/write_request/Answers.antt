@@ -1,5 +1,4 @@
 -- `outgoing::write_request` meets its contract: what was judged is put.
-use borrow.Author.Rules.{rules}
 use mathlib.Core.Path.{sym, ap, ◌∙◌}
 use native.Mathlib.Omega.{arith}
 use Rattle.wire.proofs.Over.{put_as}

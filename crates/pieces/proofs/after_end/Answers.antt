@@ -1,6 +1,5 @@
 -- `pieces::after_end` meets its contract: its tests are the definition's, one after the other.
 use mathlib.Core.Path.{sym, ap, ◌∙◌}
-use borrow.Author.Rules.{rules}
 use borrow.Author.Tests.{not-true, not-false}
 use Rattle.pieces.specs.Pieces as pieces
 use Rattle.pieces.specs.Pieces.{is_decided}

@@ -1,6 +1,5 @@
 -- `pieces::feed_request` meets its contract: by whether the connection counts too much, and then by its state.
 use mathlib.Core.Path.{sym, ap, ◌∙◌}
-use borrow.Author.Rules.{rules}
 use Rattle.pieces.specs.Pieces.{broken, told_state}
 use Rattle.pieces.specs.Code.{counts}
 use Rattle.pieces.specs.Reads.{request_read}

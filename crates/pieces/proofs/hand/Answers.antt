@@ -1,6 +1,5 @@
 -- `pieces::hand` meets its contract: the call of the read that is expected, and its answer as one of either.
 use mathlib.Core.Path.{ap}
-use borrow.Author.Rules.{rules}
 use Rattle.pieces.specs.declared.Answer.{Answer}
 use Rattle.pieces.proofs.hand.Goals as goal
 

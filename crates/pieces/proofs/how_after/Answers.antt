@@ -1,5 +1,4 @@
 -- `pieces::how_after` meets its contract: its tests are the definition's.
-use mathlib.Core.Path.{refl, sym, ◌∙◌}
 use mathlib.Core.Bool.{or-true}
 use borrow.Author.Tests.{lt-ltb, le-ltb, eq-eqb, ne_eqb}
 use Rattle.pieces.specs.Pieces.{how_after}

@@ -1,6 +1,5 @@
 -- `pieces::is_broken` meets its contract: by its two tests.
 use mathlib.Core.Path.{refl}
-use borrow.Author.Rules.{rules}
 use borrow.Author.Tests.{lt-ltb, le-ltb}
 use Rattle.pieces.specs.Code.{counts}
 use Rattle.pieces.proofs.is_broken.Goals as goal

@@ -3,7 +3,6 @@ use mathlib.Core.Path.{sym, ap, ◌∙◌}
 use Rattle.walk.specs.Met.{told_passed}
 use Rattle.pieces.proofs.Storing.{stored_first}
 use Rattle.pieces.proofs.Joining.{judged_front, judged_short, judged_halts, judged_on}
-use borrow.Author.Rules.{rules}
 use Rattle.pieces.proofs.judge_part.Goals as goal
 
 pub returns-then-begins-held : goal.returns-then-begins-held

@@ -3,7 +3,6 @@ use mathlib.Core.Path.{sym, ap, ◌∙◌}
 use native.Mathlib.Omega.{arith}
 use Rattle.pieces.specs.Code.{told_scanned}
 use Rattle.pieces.proofs.Joining.{rest_through, rest_decides, rest_place, rest_waits}
-use borrow.Author.Rules.{rules}
 use Rattle.pieces.proofs.judge_rest.Goals as goal
 
 pub overflow_add-result : goal.overflow_add-result

@@ -2,7 +2,6 @@
 use mathlib.Core.Path.{refl}
 use native.Mathlib.Omega.{arith}
 use Rattle.pieces.proofs.Joining.{lacks_header, lacks_size}
-use borrow.Author.Rules.{rules}
 use Rattle.pieces.proofs.lacking.Goals as goal
 
 pub returns-then-held-part : goal.returns-then-held-part

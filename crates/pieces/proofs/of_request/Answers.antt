@@ -1,6 +1,5 @@
 -- `pieces::of_request` meets its contract: case by case.
 use mathlib.Core.Path.{sym, ap}
-use borrow.Author.Rules.{rules}
 use Rattle.pieces.specs.Reads.{of_request}
 use Rattle.pieces.proofs.of_request.Goals as goal
 

@@ -1,6 +1,5 @@
 -- `pieces::pending_reply` meets its contract: what was gathered, and where it decides the whole-message reader's answer over it.
 use mathlib.Core.Path.{refl, sym, ap, ◌∙◌}
-use borrow.Author.Rules.{rules}
 use Rattle.reply.specs.Reply as replies
 use Rattle.reply.proofs.Reader.{table_reader_lem}
 use Rattle.pieces.specs.Reads.{reply_read}

@@ -1,7 +1,6 @@
 -- `pieces::reply_again` meets its contract: it hands on what the whole-message reader answers over the bytes gathered, as to one who offered
 -- just what the reply names.
 use mathlib.Core.Path.{sym, ap, ◌∙◌}
-use borrow.Author.Rules.{rules}
 use Rattle.reply.specs.Reply as replies
 use Rattle.reply.proofs.Offered.{told_own}
 use Rattle.pieces.specs.Reads.{reply_read}

@@ -1,6 +1,5 @@
 -- `pieces::request_again` meets its contract: it hands on what the whole-message reader answers over the bytes gathered.
 use mathlib.Core.Path.{sym, ap, ◌∙◌}
-use borrow.Author.Rules.{rules}
 use Rattle.request.specs.Request as requests
 use Rattle.pieces.specs.Reads.{request_read}
 use Rattle.pieces.proofs.Feeding.{again_says}

@@ -1,12 +1,8 @@
 -- `pieces::scan` meets its contract. The loop's invariant: the walk from the place on, with the kinds seen before it, is the whole walk.
-use mathlib.Core.Path.{sym, ap, ◌∙◌}
 use Prim.Native.Nat.{◌-◌}
-use native.Mathlib.Omega.{arith}
 use lib.ListN.{length}
 use Rattle.walk.specs.Rules.{reader_of}
-use Rattle.walk.specs.Met.{told_passed}
-use Rattle.pieces.proofs.Scanning.{Scanning, scanning_start, scanning_stop, scanning_found, scanning_on, scanning_onward}
-use borrow.Author.Rules.{rules}
+use Rattle.pieces.proofs.Scanning.{Scanning}
 use Rattle.pieces.proofs.scan.Given as goal
 
 abbrev pub invariant-loop-profile : goal.invariant-loop-profile

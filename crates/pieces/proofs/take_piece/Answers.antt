@@ -1,7 +1,6 @@
 -- `pieces::take_piece` meets its contract: what fits by the limit and the buffer is judged, and stored through the record that decides.
 use native.Mathlib.Omega.{arith}
 use Rattle.pieces.proofs.Taking.{smaller_above, fits_is, fits_part, fits_limit, fits_room, part_long, taken}
-use borrow.Author.Rules.{rules}
 use Rattle.pieces.proofs.take_piece.Goals as goal
 
 pub overflow_sub-smaller : goal.overflow_sub-smaller

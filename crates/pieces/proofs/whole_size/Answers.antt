@@ -1,6 +1,5 @@
 -- `pieces::whole_size` meets its contract: the bytes left are counted against the header and then against the size in it.
 use Rattle.pieces.proofs.Scanning.{sized_short, sized_cut, sized_whole}
-use borrow.Author.Rules.{rules}
 use Rattle.pieces.proofs.whole_size.Goals as goal
 
 pub returns-then-left-lt-HEADER : goal.returns-then-left-lt-HEADER

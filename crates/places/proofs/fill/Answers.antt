@@ -1,6 +1,5 @@
 -- `places::fill` meets its contract: it stores where a cell can count the bytes and there is room for so many, looks for one more from where it
 -- stopped, and refuses everywhere else.
-use borrow.Author.Rules.{rules}
 use Rattle.places.proofs.Filling.{fills_first, fills_all, fills_long, fills_many}
 use Rattle.places.proofs.fill.Goals as goal
 

@@ -1,8 +1,6 @@
 -- `places::follows` meets its contract: the records passed are of another kind.
-use borrow.Author.Rules.{rules}
-use Prim.Native.Nat.{◌-◌}
 use native.Mathlib.Omega.{arith}
-use Rattle.places.proofs.Filling.{Seeking, seeking_start, seeking_cut, seeking_end, seeking_one, seeking_other}
+use Rattle.places.proofs.Filling.{seeking_start, seeking_cut, seeking_end, seeking_one, seeking_other}
 use Rattle.places.proofs.follows.Goals as goal
 
 pub loop-at-init : goal.loop-at-init

@@ -1,9 +1,7 @@
 -- `places::store` meets its contract: the cells written are those of the records passed.
-use borrow.Author.Rules.{rules}
-use Prim.Native.Nat.{◌-◌}
 use native.Mathlib.Omega.{arith}
 use lib.ListN.{length-set}
-use Rattle.places.proofs.Filling.{Passing, passing_start, passing_all, passing_cut, passing_end, passing_room, passing_one, passing_other}
+use Rattle.places.proofs.Filling.{passing_start, passing_all, passing_cut, passing_end, passing_room, passing_one, passing_other}
 use Rattle.places.proofs.store.Goals as goal
 
 pub loop-n-init : goal.loop-n-init

@@ -1,5 +1,4 @@
 -- `plan::append_field` meets its contract: where there is room, the field is put behind the used part.
-use borrow.Author.Rules.{rules}
 use native.Mathlib.Omega.{arith}
 use Rattle.plan.proofs.Appending.{field_tight, field_done}
 use Rattle.plan.proofs.append_field.Goals as goal

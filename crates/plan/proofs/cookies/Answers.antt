@@ -1,5 +1,4 @@
 -- `plan::cookies` meets its contract: of a tray whose fields are cookies, their number decides.
-use borrow.Author.Rules.{rules}
 use native.Mathlib.Omega.{arith}
 use mathlib.Core.Path.{sym, ap, ◌∙◌}
 use Rattle.plan.specs.Code.{told_tally}

@@ -1,5 +1,4 @@
 -- `plan::name_length` meets its contract: it goes by the same cases as the definition.
-use borrow.Author.Rules.{rules}
 use native.Mathlib.Omega.{arith}
 use Rattle.plan.proofs.name_length.Goals as goal
 

@@ -1,5 +1,4 @@
 -- `plan::put_field` meets its contract: the body is put into what the header leaves of the output.
-use borrow.Author.Rules.{rules}
 use Rattle.wire.proofs.Over.{try_then}
 use Rattle.plan.specs.Tray.{field_bytes}
 use Rattle.plan.proofs.put_field.Goals as goal

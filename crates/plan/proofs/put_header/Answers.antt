@@ -1,5 +1,4 @@
 -- `plan::put_header` meets its contract: the number is put into what the tag leaves of the output.
-use borrow.Author.Rules.{rules}
 use Rattle.wire.proofs.Over.{try_then}
 use Rattle.plan.proofs.put_header.Goals as goal
 

@@ -1,5 +1,4 @@
 -- `plan::put_tag` meets its contract: one byte is stored at the front.
-use borrow.Author.Rules.{rules}
 use mathlib.Core.List.{[], ◌∷◌}
 use Rattle.wire.proofs.Over.{as_put, stores_over}
 use Rattle.plan.proofs.put_tag.Goals as goal

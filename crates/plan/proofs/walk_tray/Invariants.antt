@@ -1,9 +1,6 @@
 -- `plan::walk_tray` meets its contract: the loop's invariant is that the fields passed stand in front of those of the rest.
-use borrow.Author.Rules.{rules}
-use mathlib.Core.Path.{sym, ◌∙◌}
 use Prim.Native.Nat.{◌-◌}
-use native.Mathlib.Omega.{arith}
-use Rattle.plan.proofs.Walking.{Going, used_past, going_start, going_end, going_other, going_short, going_cut, going_on}
+use Rattle.plan.proofs.Walking.{Going}
 use Rattle.plan.proofs.walk_tray.Given as goal
 
 abbrev pub invariant-loop-at : goal.invariant-loop-at

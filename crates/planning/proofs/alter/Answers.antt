@@ -1,9 +1,8 @@
 -- `planning::alter` meets its contract: the plan that the cells hold is changed and put again.
-use borrow.Author.Rules.{rules}
 use mathlib.Core.Path.{refl, sym, ap, ◌∙◌}
 use Rattle.cells.proofs.Lent.{given}
 use Rattle.planning.specs.Planned.{plan_cells, changed}
-use Rattle.planning.specs.Code.{told_held, changed_by}
+use Rattle.planning.specs.Code.{told_held}
 use Rattle.planning.proofs.alter.Goals as goal
 
 pub returns-in_default : goal.returns-in_default

@@ -1,5 +1,4 @@
 -- `planning::changed_by` meets its contract: each arm asks the plan for its change.
-use borrow.Author.Rules.{rules}
 use Rattle.planning.proofs.changed_by.Goals as goal
 
 pub returns-in-SetPort : goal.returns-in-SetPort

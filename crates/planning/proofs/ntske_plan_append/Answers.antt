@@ -1,5 +1,4 @@
 -- `planning::ntske_plan_append` meets its contract: the plan that the cells hold is asked, and its answer is put.
-use borrow.Author.Rules.{rules}
 use mathlib.Core.Path.{refl, sym, ap, ◌∙◌}
 use Rattle.plan.specs.Plan.{told_appended}
 use Rattle.cells.proofs.Lent.{given}

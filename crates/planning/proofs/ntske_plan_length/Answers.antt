@@ -1,5 +1,4 @@
 -- `planning::ntske_plan_length` meets its contract: what the plan's call answered is given, where the cells hold a plan.
-use borrow.Author.Rules.{rules}
 use mathlib.Core.Path.{refl, sym, ap, ◌∙◌}
 use Rattle.cells.specs.Cells.{counted}
 use Rattle.cells.proofs.Lent.{given}

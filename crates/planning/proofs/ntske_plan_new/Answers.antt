@@ -1,5 +1,4 @@
 -- `planning::ntske_plan_new` meets its contract: the new plan is put.
-use borrow.Author.Rules.{rules}
 use mathlib.Core.Path.{refl, ap, ◌∙◌}
 use Rattle.planning.specs.Planned.{plan_cells}
 use Rattle.planning.proofs.ntske_plan_new.Goals as goal

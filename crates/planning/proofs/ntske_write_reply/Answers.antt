@@ -1,5 +1,4 @@
 -- `planning::ntske_write_reply` meets its contract: what the library's call answered and left is given, where the cells hold a plan.
-use borrow.Author.Rules.{rules}
 use mathlib.Core.Path.{refl, sym, ap, ◌∙◌}
 use Rattle.layout.specs.Write.{left_by}
 use Rattle.cells.proofs.Lent.{wrote}

@@ -1,5 +1,4 @@
 -- `planning::plan_cells` meets its contract: each cell is what the definition puts there.
-use borrow.Author.Rules.{rules}
 use Rattle.planning.proofs.plan_cells.Goals as goal
 
 pub returns : goal.returns

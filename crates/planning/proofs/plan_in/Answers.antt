@@ -1,5 +1,4 @@
 -- `planning::plan_in` meets its contract: where the cells are a plan's, each is read whole.
-use borrow.Author.Rules.{rules}
 use mathlib.Core.Path.{sym, ◌∙◌}
 use native.Mathlib.Omega.{arith}
 use Rattle.planning.specs.Planned.{plan_in}

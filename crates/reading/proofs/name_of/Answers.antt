@@ -1,5 +1,4 @@
 -- `reading::name_of` meets its contract: each arm knows whether a name was sent.
-use borrow.Author.Rules.{rules}
 use Rattle.reading.proofs.name_of.Goals as goal
 
 pub returns-in-NotSent : goal.returns-in-NotSent

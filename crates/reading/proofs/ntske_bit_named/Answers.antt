@@ -1,7 +1,6 @@
 -- `reading::ntske_bit_named` meets its contract: each arm knows which bit the table names.
 use mathlib.Core.Path.{sym, ap, ◌∙◌}
 use Rattle.reading.specs.Read.{bit_cell}
-use borrow.Author.Rules.{rules}
 use Rattle.reading.proofs.ntske_bit_named.Goals as goal
 
 pub returns-in-Clear : goal.returns-in-Clear

@@ -1,7 +1,6 @@
 -- `reading::ntske_is_utf8` meets its contract: the flag of what the test says.
 use mathlib.Core.Path.{sym, ap, ◌∙◌}
 use Rattle.cells.specs.Cells.{flag}
-use borrow.Author.Rules.{rules}
 use Rattle.reading.proofs.ntske_is_utf8.Goals as goal
 
 pub returns-then-is_utf8 : goal.returns-then-is_utf8

@@ -3,7 +3,6 @@ use mathlib.Core.Path.{refl, sym, ap, ◌∙◌}
 use Rattle.record.specs.Told.{told_parsed}
 use Rattle.cells.proofs.Lent.{given}
 use Rattle.reading.specs.Read.{record_given}
-use borrow.Author.Rules.{rules}
 use Rattle.reading.proofs.ntske_read_record.Goals as goal
 
 pub returns-in-Read : goal.returns-in-Read

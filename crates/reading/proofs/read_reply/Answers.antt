@@ -5,7 +5,6 @@ use Rattle.reply.specs.Reply.{told_answer}
 use Rattle.reply.proofs.Within.{told_within}
 use Rattle.cells.proofs.Lent.{given}
 use Rattle.reading.specs.Read.{reply_given}
-use borrow.Author.Rules.{rules}
 use Rattle.reading.proofs.read_reply.Goals as goal
 
 pub refused-requires : goal.refused-requires

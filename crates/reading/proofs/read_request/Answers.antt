@@ -5,7 +5,6 @@ use Rattle.request.specs.Request.{told_answer}
 use Rattle.request.proofs.Within.{told_within}
 use Rattle.cells.proofs.Lent.{given}
 use Rattle.reading.specs.Read.{request_given}
-use borrow.Author.Rules.{rules}
 use Rattle.reading.proofs.read_request.Goals as goal
 
 pub refused-requires : goal.refused-requires

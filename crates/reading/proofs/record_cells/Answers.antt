@@ -1,5 +1,4 @@
 -- `reading::record_cells` meets its contract: each arm knows which record it is.
-use borrow.Author.Rules.{rules}
 use Rattle.reading.proofs.record_cells.Goals as goal
 
 pub returns-in-EndOfMessage : goal.returns-in-EndOfMessage

@@ -1,5 +1,4 @@
 -- `reading::reply_cells` meets its contract: each cell is what its own function says.
-use borrow.Author.Rules.{rules}
 use Rattle.reading.proofs.reply_cells.Goals as goal
 
 pub returns : goal.returns

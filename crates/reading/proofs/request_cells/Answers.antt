@@ -1,5 +1,4 @@
 -- `reading::request_cells` meets its contract: each arm knows which request it is.
-use borrow.Author.Rules.{rules}
 use Rattle.reading.proofs.request_cells.Goals as goal
 
 pub returns-in-KeyExchange : goal.returns-in-KeyExchange

@@ -1,6 +1,5 @@
 -- `record::algorithm_at` meets its contract: what was found in the list is handed on under its type.
 use Rattle.record.proofs.Entry.{handed_on}
-use borrow.Author.Rules.{rules}
 use Rattle.record.proofs.algorithm_at.Goals as goal
 
 pub returns-in-Number : goal.returns-in-Number

@@ -1,6 +1,5 @@
 -- `record::description_at` meets its contract: the index is inside exactly where the definition tests it.
 use Rattle.record.proofs.Entry.{pair_inside, pair_outside, pair_handed_on}
-use borrow.Author.Rules.{rules}
 use Rattle.record.proofs.description_at.Goals as goal
 
 pub returns-then-index-bytes : goal.returns-then-index-bytes

@@ -1,6 +1,5 @@
 -- `record::fault_of` meets its contract: each arm knows the shape, and the definition computes at it.
 use Rattle.record.specs.Record.{fault_of}
-use borrow.Author.Rules.{rules}
 use Rattle.record.proofs.fault_of.Goals as goal
 
 pub returns-in-Skipped : goal.returns-in-Skipped

@@ -1,6 +1,5 @@
 -- `record::first_of` meets its contract: each arm knows the fault, and the definition computes at it.
 use Rattle.record.specs.Record.{first_of}
-use borrow.Author.Rules.{rules}
 use Rattle.record.proofs.first_of.Goals as goal
 
 pub returns-in-None : goal.returns-in-None

@@ -1,7 +1,6 @@
 -- `record::halves_fault` meets its contract: the tests are the definition's.
 use borrow.Author.Tests.{lt-ltb, le-ltb, eq-eqb, ne_eqb}
 use Rattle.record.specs.Record.{not_halves}
-use borrow.Author.Rules.{rules}
 use Rattle.record.proofs.halves_fault.Goals as goal
 
 pub returns-then-there-size : goal.returns-then-there-size

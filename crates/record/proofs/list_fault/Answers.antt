@@ -1,7 +1,6 @@
 -- `record::list_fault` meets its contract: the test is the definition's.
 use borrow.Author.Tests.{eq-eqb, ne_eqb}
 use Rattle.record.specs.Record.{uneven}
-use borrow.Author.Rules.{rules}
 use Rattle.record.proofs.list_fault.Goals as goal
 
 pub returns-then-size-unit-eq0 : goal.returns-then-size-unit-eq0

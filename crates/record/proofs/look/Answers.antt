@@ -5,7 +5,6 @@ use Rattle.layout.specs.Table.{shape_of}
 use Rattle.layout.proofs.Profiles.{taken_shape}
 use Rattle.record.specs.Told.{told_fault, told_looked}
 use Rattle.record.proofs.Read.{look_rest, look_past_end, look_no_header, look_faulty, look_faultless}
-use borrow.Author.Rules.{rules}
 use Rattle.record.proofs.look.Goals as goal
 
 pub returns-then-message-at : goal.returns-then-message-at

@@ -1,6 +1,5 @@
 -- `record::name_fault` meets its contract: it puts the two faults in the definition's order.
 use Rattle.record.specs.Record.{not_name}
-use borrow.Author.Rules.{rules}
 use Rattle.record.proofs.name_fault.Goals as goal
 
 pub returns : goal.returns

@@ -1,6 +1,5 @@
 -- `record::number_in` meets its contract: the index is inside exactly where the definition tests it.
 use Rattle.record.proofs.Entry.{number_inside, number_outside}
-use borrow.Author.Rules.{rules}
 use Rattle.record.proofs.number_in.Goals as goal
 
 pub returns-then-index-list : goal.returns-then-index-list

@@ -2,7 +2,6 @@
 use Rattle.layout.specs.Table.{row_of, shape_of}
 use Rattle.layout.proofs.Table.{unnamed, unknown_shape}
 use Rattle.record.specs.Record.{value_of, seen_of}
-use borrow.Author.Rules.{rules}
 use Rattle.record.proofs.record_of.Goals as goal
 
 pub returns-in-0 : goal.returns-in-0

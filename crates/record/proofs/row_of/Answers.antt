@@ -1,6 +1,5 @@
 -- `record::row_of` meets its contract: each arm knows the kind, and the table computes at it.
 use mathlib.Core.Path.{sym, ◌∙◌}
-use borrow.Author.Rules.{rules}
 use Rattle.layout.specs.Table.{row_of}
 use Rattle.layout.proofs.Table.{unnamed, unknown_row}
 use Rattle.record.proofs.row_of.Goals as goal

@@ -1,6 +1,5 @@
 -- `record::shape_of` meets its contract: it is the body of the kind's row.
 use mathlib.Core.Path.{ap}
-use borrow.Author.Rules.{rules}
 use Rattle.layout.specs.Table.{shape_of}
 use Rattle.layout.specs.declared.Row.{Row}
 use Rattle.record.proofs.shape_of.Goals as goal

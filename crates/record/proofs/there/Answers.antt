@@ -1,6 +1,5 @@
 -- `record::there` meets its contract: of a body that is short all that follows the header is there.
 use Rattle.record.proofs.Read.{there_all, there_some}
-use borrow.Author.Rules.{rules}
 use Rattle.record.proofs.there.Goals as goal
 
 pub returns-then-rest-size : goal.returns-then-rest-size

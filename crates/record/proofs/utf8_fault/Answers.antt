@@ -1,7 +1,6 @@
 -- `record::utf8_fault` meets its contract: what the checker said is the definition's test.
 use mathlib.Core.Path.{sym, ◌∙◌}
 use Rattle.record.specs.Record.{not_utf8}
-use borrow.Author.Rules.{rules}
 use Rattle.record.proofs.utf8_fault.Goals as goal
 
 pub returns-then-is_utf8 : goal.returns-then-is_utf8

@@ -4,7 +4,6 @@ use Rattle.layout.specs.Table.{row_of, shape_of}
 use Rattle.walk.specs.Shown.{slot_of}
 use Rattle.walk.specs.declared.Seen.{Seen}
 use Rattle.reply.specs.Code.{number_in, sent_in, accepted_in}
-use borrow.Author.Rules.{rules}
 use Rattle.reply.proofs.accepted.Goals as goal
 
 pub returns : goal.returns

@@ -1,5 +1,5 @@
 -- `reply::decide` meets its contract: the tests are the definition's, in its order.
-use mathlib.Core.Path.{◌≡◌, refl, sym, ap, ◌∙◌}
+use mathlib.Core.Path.{refl, sym, ap, ◌∙◌}
 use mathlib.Core.Bool.{not}
 use Prim.Native.Nat.{ℕ}
 use borrow.Author.Tests.{eq-eqb, ne_eqb}
@@ -11,7 +11,6 @@ use Rattle.walk.proofs.Verdicts.{taken, left}
 use Rattle.reply.specs.Reply.{offering, refused_with, told_answer}
 use Rattle.reply.specs.Code.{cookies_for}
 use Rattle.reply.proofs.Decided.{decided_is}
-use borrow.Author.Rules.{rules}
 use Rattle.reply.proofs.decide.Goals as goal
 
 pub returns-then-first-eq0 : goal.returns-then-first-eq0

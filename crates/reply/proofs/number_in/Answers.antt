@@ -5,7 +5,6 @@ use mathlib.Core.List.{List}
 use Rattle.wire.specs.Bytes.{number_at, part_at}
 use Rattle.layout.specs.declared.Part.{Part}
 use Rattle.reply.specs.Code.{number_in}
-use borrow.Author.Rules.{rules}
 use Rattle.reply.proofs.number_in.Goals as goal
 
 pub returns : goal.returns

@@ -4,7 +4,6 @@ use borrow.Author.Tests.{eq-eqb, ne_eqb}
 use Rattle.walk.proofs.Verdicts.{taken, left}
 use Rattle.reply.specs.Reply.{sent}
 use Rattle.reply.specs.Code.{sent_in}
-use borrow.Author.Rules.{rules}
 use Rattle.reply.proofs.server_of.Goals as goal
 
 pub returns-then-seen-eq0 : goal.returns-then-seen-eq0

@@ -3,7 +3,6 @@ use mathlib.Core.Path.{ap, ◌∙◌}
 use Rattle.walk.specs.Walk.{Reader}
 use Rattle.walk.specs.Finding.{found_by}
 use Rattle.reply.proofs.Reader.{table_reader_lem}
-use borrow.Author.Rules.{rules}
 use Rattle.reply.proofs.walk_into.Goals as goal
 
 pub returns : goal.returns

@@ -1,15 +1,12 @@
 -- `reply::with_cookies` meets its contract: the tests are the definition's, in its order.
 use mathlib.Core.Path.{ap, ◌∙◌}
-use Prim.Native.Nat.{ℕ}
 use borrow.Author.Tests.{eq-eqb, ne_eqb, lt-ltb, le-ltb}
 use Rattle.layout.specs.Table.{row_of, shape_of}
 use Rattle.walk.specs.Shown.{slot_of}
 use Rattle.walk.specs.declared.Seen.{Seen}
 use Rattle.walk.proofs.Verdicts.{taken, left}
 use Rattle.reply.specs.Reply.{told_answer}
-use Rattle.reply.specs.Code.{cookies_for}
 use Rattle.reply.proofs.Decided.{cookies_is}
-use borrow.Author.Rules.{rules}
 use Rattle.reply.proofs.with_cookies.Goals as goal
 
 pub returns-then-cookies-eq0 : goal.returns-then-cookies-eq0

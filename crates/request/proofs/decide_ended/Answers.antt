@@ -3,7 +3,6 @@ use mathlib.Core.Path.{sym, ◌∙◌}
 use Rattle.layout.specs.Table.{row_of, shape_of}
 use Rattle.walk.specs.Shown.{slot_of}
 use Rattle.request.proofs.Decided.{by_support, by_keys, by_exchange}
-use borrow.Author.Rules.{rules}
 use Rattle.request.proofs.decide_ended.Goals as goal
 
 pub returns-then-is_there : goal.returns-then-is_there

@@ -4,7 +4,6 @@ use Rattle.layout.specs.Table.{row_of, shape_of}
 use Rattle.walk.specs.Shown.{slot_of}
 use Rattle.request.specs.Request.{told_answer}
 use Rattle.request.proofs.Decided.{exchange_none, exchange_half, exchange_full, exchange_is}
-use borrow.Author.Rules.{rules}
 use Rattle.request.proofs.decide_exchange.Goals as goal
 
 pub returns-then-protocols-eq0 : goal.returns-then-protocols-eq0

@@ -5,7 +5,6 @@ use Rattle.walk.specs.Shown.{slot_of}
 use Rattle.request.specs.Request.{told_answer}
 use Rattle.request.specs.Code.{is_one}
 use Rattle.request.proofs.Decided.{keys_by_lem, one_entry}
-use borrow.Author.Rules.{rules}
 use Rattle.request.proofs.decide_fixed.Goals as goal
 
 pub decide_keys-requires : goal.decide_keys-requires

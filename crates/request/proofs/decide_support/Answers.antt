@@ -4,7 +4,6 @@ use Rattle.layout.specs.Table.{row_of, shape_of}
 use Rattle.walk.specs.Shown.{slot_of}
 use Rattle.request.specs.Request.{told_answer}
 use Rattle.request.proofs.Decided.{support_none, support_not, support_is_lem}
-use borrow.Author.Rules.{rules}
 use Rattle.request.proofs.decide_support.Goals as goal
 
 pub returns-then-authentication-eq0 : goal.returns-then-authentication-eq0

@@ -1,7 +1,6 @@
 -- `request::decision` meets its contract: what stopped the walk, and where that was the end record the decision over what was found.
 use Rattle.walk.specs.Finding.{as_finding}
 use Rattle.request.proofs.Answering.{ended_fit, decided_refused, decided_ended}
-use borrow.Author.Rules.{rules}
 use Rattle.request.proofs.decision.Goals as goal
 
 pub decide_ended-requires : goal.decide_ended-requires

@@ -1,5 +1,4 @@
 -- `request::denied_in` meets its contract: by cases, as the definition goes.
-use borrow.Author.Rules.{rules}
 use Rattle.request.proofs.denied_in.Goals as goal
 
 pub returns-in-KeyExchange : goal.returns-in-KeyExchange

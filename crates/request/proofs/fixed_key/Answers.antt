@@ -2,7 +2,6 @@
 use Rattle.layout.specs.Table.{row_of, shape_of}
 use Rattle.walk.specs.Shown.{slot_of}
 use Rattle.request.proofs.Decided.{keys_are_lem}
-use borrow.Author.Rules.{rules}
 use Rattle.request.proofs.fixed_key.Goals as goal
 
 pub returns : goal.returns

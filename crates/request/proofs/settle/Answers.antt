@@ -2,7 +2,6 @@
 use native.Mathlib.Omega.{arith}
 use Rattle.walk.specs.Finding.{as_finding}
 use Rattle.request.proofs.Answering.{place_is, place_inside, reads_none, reads_names}
-use borrow.Author.Rules.{rules}
 use Rattle.request.proofs.settle.Goals as goal
 
 pub returns-then-denied-eq0 : goal.returns-then-denied-eq0

@@ -1,5 +1,4 @@
 -- `showing::ntske_list` meets its contract: what the library's call answered and left is given.
-use borrow.Author.Rules.{rules}
 use Rattle.cells.proofs.Lent.{wrote}
 use Rattle.showing.proofs.ntske_list.Goals as goal
 

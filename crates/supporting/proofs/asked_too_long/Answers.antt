@@ -1,5 +1,4 @@
 -- `supporting::asked_too_long` meets its contract: the test is the definition's.
-use borrow.Author.Rules.{rules}
 use Rattle.supporting.proofs.asked_too_long.Goals as goal
 
 pub returns-then-asked : goal.returns-then-asked

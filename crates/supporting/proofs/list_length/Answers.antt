@@ -1,5 +1,4 @@
 -- `supporting::list_length` meets its contract: the test is the definition's.
-use borrow.Author.Rules.{rules}
 use Rattle.supporting.proofs.list_length.Goals as goal
 
 pub returns-then-asked : goal.returns-then-asked

@@ -1,5 +1,4 @@
 -- `supporting::put_list_if` meets its contract: the test is the definition's.
-use borrow.Author.Rules.{rules}
 use Rattle.messages.proofs.Putting.{list_tried, asked_record, not_asked}
 use Rattle.supporting.proofs.Judging.{asked_short}
 use Rattle.supporting.proofs.put_list_if.Goals as goal

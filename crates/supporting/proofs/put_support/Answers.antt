@@ -1,5 +1,4 @@
 -- `supporting::put_support` meets its contract: each record is put into what the last left of the output.
-use borrow.Author.Rules.{rules}
 use mathlib.Core.Path.{refl}
 use native.Mathlib.Omega.{arith}
 use Rattle.wire.proofs.Over.{put_as, try_then}

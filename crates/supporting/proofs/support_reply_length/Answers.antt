@@ -1,5 +1,4 @@
 -- `supporting::support_reply_length` meets its contract: each return is the definition's for what was found before it.
-use borrow.Author.Rules.{rules}
 use native.Mathlib.Omega.{arith}
 use mathlib.Core.Path.{sym, ◌∙◌}
 use Prim.Native.Nat.{◌*◌}

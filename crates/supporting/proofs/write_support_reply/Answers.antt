@@ -1,5 +1,4 @@
 -- `supporting::write_support_reply` meets its contract: what was judged is put.
-use borrow.Author.Rules.{rules}
 use mathlib.Core.Path.{refl, sym, ap, ◌∙◌}
 use native.Mathlib.Omega.{arith}
 use Rattle.wire.proofs.Over.{put_as}

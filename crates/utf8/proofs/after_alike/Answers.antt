@@ -3,10 +3,7 @@
 use borrow.Author.Rules.{rules}
 use borrow.Author.Tests.{not-true, not-false}
 use mathlib.Core.Path.{sym, ◌∙◌}
-use Prim.Native.Nat.{◌-◌, ◌≤◌}
 use native.Mathlib.Omega.{arith}
-use lib.ListN.{length}
-use Rattle.utf8.specs.Lead.{Passed}
 use Rattle.utf8.proofs.Run.{passed_none}
 use Rattle.utf8.proofs.Alike.{none_at_all, ends_other, ends_broken, ends_short, alike_more}
 use Rattle.utf8.proofs.after_alike.Goals as goal

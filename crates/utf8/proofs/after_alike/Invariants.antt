@@ -1,14 +1,8 @@
 -- `utf8::after_alike` meets its contract. The loop's invariant: up to the place reached, which is inside, only what the check could not
 -- refuse was passed over. A sequence of the class is passed whole. The measure is what is left of the length.
-use borrow.Author.Rules.{rules}
-use borrow.Author.Tests.{not-true, not-false}
-use mathlib.Core.Path.{sym, ◌∙◌}
 use Prim.Native.Nat.{◌-◌, ◌≤◌}
-use native.Mathlib.Omega.{arith}
 use lib.ListN.{length}
 use Rattle.utf8.specs.Lead.{Passed}
-use Rattle.utf8.proofs.Run.{passed_none}
-use Rattle.utf8.proofs.Alike.{none_at_all, ends_other, ends_broken, ends_short, alike_more}
 use Rattle.utf8.proofs.after_alike.Given as goal
 
 abbrev pub invariant-loop-i : goal.invariant-loop-i

@@ -3,9 +3,6 @@
 use borrow.Author.Rules.{rules}
 use borrow.Author.Tests.{not-false}
 use mathlib.Core.Path.{sym, ◌∙◌}
-use Prim.Native.Nat.{◌-◌, ◌≤◌}
-use lib.ListN.{length}
-use Rattle.utf8.specs.Lead.{Passed}
 use Rattle.utf8.proofs.Ascii.{ascii_each}
 use Rattle.utf8.proofs.Run.{passed_none, passed_block}
 use Rattle.utf8.proofs.after_blocks.Goals as goal

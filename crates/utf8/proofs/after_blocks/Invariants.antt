@@ -1,13 +1,8 @@
 -- `utf8::after_blocks` meets its contract. The loop's invariant is what it ensures, at the place reached, which is inside: the ASCII
 -- bytes of a block are passed one after the other. The measure is what is left of the length.
-use borrow.Author.Rules.{rules}
-use borrow.Author.Tests.{not-false}
-use mathlib.Core.Path.{sym, ◌∙◌}
 use Prim.Native.Nat.{◌-◌, ◌≤◌}
 use lib.ListN.{length}
 use Rattle.utf8.specs.Lead.{Passed}
-use Rattle.utf8.proofs.Ascii.{ascii_each}
-use Rattle.utf8.proofs.Run.{passed_none, passed_block}
 use Rattle.utf8.proofs.after_blocks.Given as goal
 
 abbrev pub invariant-loop-i : goal.invariant-loop-i

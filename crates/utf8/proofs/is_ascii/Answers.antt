@@ -1,9 +1,6 @@
 -- `utf8::is_ascii` meets its contract. The loop's invariant: whether all of the bytes so far are ASCII.
 use borrow.Author.Rules.{rules}
-use mathlib.Core.Path.{◌≡◌, refl}
-use mathlib.Core.Logic.{⊎_elim}
-use Prim.Native.Nat.{◌-◌}
-use lib.ListN.{length, take}
+use mathlib.Core.Path.{refl}
 use Rattle.utf8.specs.Ascii.{is_ascii}
 use Rattle.utf8.proofs.Ascii.{ascii_above, ascii_kept, ascii_whole}
 use Rattle.utf8.proofs.is_ascii.Goals as goal
@@ -18,8 +15,8 @@ loop-i-preserved c =
     let s = c.args.s.now in
     let i = c.loop-i.i in
     elim c.if-s-i-gt127.branch [
-      then-s-i-gt127 w ↦ ascii_above s i _ (search rules) w.if-s-i-gt127.true w.all-is
-    | else-s-i-gt127 w ↦ ascii_kept s i _ _ (search rules) w.if-s-i-gt127.false w.all-is c.loop-i.invariant
+      | then-s-i-gt127 w ↦ ascii_above s i _ (search rules) w.if-s-i-gt127.true w.all-is
+      | else-s-i-gt127 w ↦ ascii_kept s i _ _ (search rules) w.if-s-i-gt127.false w.all-is c.loop-i.invariant
     ]
 
 pub returns : goal.returns

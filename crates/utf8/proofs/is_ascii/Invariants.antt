@@ -1,11 +1,8 @@
 -- `utf8::is_ascii` meets its contract. The loop's invariant: whether all of the bytes so far are ASCII.
-use borrow.Author.Rules.{rules}
-use mathlib.Core.Path.{◌≡◌, refl}
-use mathlib.Core.Logic.{⊎_elim}
+use mathlib.Core.Path.{◌≡◌}
 use Prim.Native.Nat.{◌-◌}
 use lib.ListN.{length, take}
 use Rattle.utf8.specs.Ascii.{is_ascii}
-use Rattle.utf8.proofs.Ascii.{ascii_above, ascii_kept, ascii_whole}
 use Rattle.utf8.proofs.is_ascii.Given as goal
 
 abbrev pub invariant-loop-i : goal.invariant-loop-i

@@ -1,11 +1,7 @@
 -- `utf8::is_utf8_in` meets its contract. The loop's invariant: the answer from the place reached, which is inside, is the answer from the
 -- first place. A turn passes the sequences alike that begin there, and the ASCII bytes after them. The measure is what is left of the length.
-use borrow.Author.Rules.{rules}
-use mathlib.Core.Path.{◌≡◌, refl, sym, ◌∙◌}
-use Prim.Native.Nat.{◌-◌, ◌≤◌}
+use mathlib.Core.Path.{refl, sym, ◌∙◌}
 use native.Mathlib.Omega.{arith}
-use lib.ListN.{length, drop}
-use Rattle.utf8.specs.Utf8.{well_formed}
 use Rattle.utf8.proofs.Run.{at_end, at_none}
 use Rattle.utf8.proofs.is_utf8_in.Goals as goal
 

@@ -1,4 +1,3 @@
-
 use Rattle.walk.specs.Code.{at_most}
 use borrow.Author.Tests.{lt-ltb, le-ltb}
 use Rattle.walk.proofs.at_most.Goals as goal

@@ -1,5 +1,4 @@
 -- `walk::by_look` meets its contract: each case is the definition's.
-use borrow.Author.Rules.{rules}
 use Rattle.walk.proofs.by_look.Goals as goal
 
 pub returns-in-Refused : goal.returns-in-Refused

@@ -1,6 +1,4 @@
-
 use borrow.Author.Tests.{ne_eqb}
-use borrow.Author.Rules.{rules}
 use Rattle.walk.proofs.count_more.Goals as goal
 
 pub returns-then-before-eq0 : goal.returns-then-before-eq0

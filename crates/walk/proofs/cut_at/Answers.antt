@@ -4,7 +4,6 @@ use native.Mathlib.Omega.{arith}
 use lib.Seq.{take_all}
 use lib.ListN.{length}
 use native.Mathlib.Nat.{zero-add, sub-zero}
-use borrow.Author.Rules.{rules}
 use Rattle.walk.proofs.cut_at.Goals as goal
 
 pub returns-then-n-message : goal.returns-then-n-message

@@ -3,7 +3,6 @@ use mathlib.Core.Path.{ap}
 use native.Mathlib.Omega.{arith}
 use Rattle.walk.specs.Found.{entry_in}
 use Rattle.walk.proofs.Looking.{slot_within}
-use borrow.Author.Rules.{rules}
 use Rattle.walk.proofs.found.Goals as goal
 
 pub overflow_mul-c : goal.overflow_mul-c

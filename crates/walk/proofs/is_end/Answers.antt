@@ -4,7 +4,6 @@ use native.Mathlib.Omega.{arith}
 use Rattle.walk.specs.Code.{Views}
 use Rattle.walk.proofs.Seeing.{sees_within, sees_inside, says_meant, says_not_allowed}
 use Rattle.walk.proofs.Marks.{ended_by, ends_broken, ends_whole}
-use borrow.Author.Rules.{rules}
 use Rattle.walk.proofs.is_end.Goals as goal
 
 pub overflow_add-start : goal.overflow_add-start

@@ -1,6 +1,5 @@
 -- `walk::is_there` meets its contract: a record is there where any was counted.
 use Rattle.walk.proofs.Like.{there_none, there_some}
-use borrow.Author.Rules.{rules}
 use Rattle.walk.proofs.is_there.Goals as goal
 
 pub returns-then-found-eq0 : goal.returns-then-found-eq0

@@ -2,7 +2,6 @@
 use mathlib.Core.Path.{◌∙◌}
 use borrow.Author.Tests.{eq-eqb, ne_eqb}
 use Rattle.walk.specs.Code.{ruled_of, unknown_of, meant_of}
-use borrow.Author.Rules.{rules}
 use Rattle.walk.proofs.meant.Goals as goal
 
 pub returns-then-rule-eq-NOTED : goal.returns-then-rule-eq-NOTED

@@ -1,6 +1,5 @@
 -- `walk::met_before` meets its contract: the last bit of the mask from the kind's bit on.
 use Rattle.walk.proofs.Bits.{bit_is}
-use borrow.Author.Rules.{rules}
 use Rattle.walk.proofs.met_before.Goals as goal
 
 pub returns : goal.returns

@@ -5,7 +5,6 @@ use Rattle.walk.specs.Code.{Views}
 use Rattle.walk.specs.Met.{on}
 use Rattle.walk.proofs.Seeing.{sees_within, sees_inside, says_meant, says_not_allowed}
 use Rattle.walk.proofs.Marks.{passed_by, passing_broken, passing_whole}
-use borrow.Author.Rules.{rules}
 use Rattle.walk.proofs.pass.Goals as goal
 
 pub met_before-before-requires : goal.met_before-before-requires

@@ -1,7 +1,5 @@
-
 use borrow.Author.Tests.{eq-eqb, ne_eqb}
 use Rattle.walk.specs.Code.{ruled_of}
-use borrow.Author.Rules.{rules}
 use Rattle.walk.proofs.ruled.Goals as goal
 
 pub returns-then-before-eq0 : goal.returns-then-before-eq0

@@ -1,5 +1,4 @@
 -- `walk::same_code` meets its contract: sort and number are compared.
-use borrow.Author.Rules.{rules}
 use Rattle.walk.proofs.same_code.Goals as goal
 
 pub returns : goal.returns

@@ -1,5 +1,4 @@
 -- `walk::same_error` meets its contract: both are asked for their number and for what is beside it.
-use borrow.Author.Rules.{rules}
 use Rattle.walk.proofs.same_error.Goals as goal
 
 pub returns : goal.returns

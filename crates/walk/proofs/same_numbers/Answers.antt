@@ -1,9 +1,6 @@
 -- `walk::same_numbers` meets its contract: the loop compares number by number, and up to its index they are the same.
-use mathlib.Core.Path.{sym}
-use Prim.Native.Nat.{◌-◌}
 use native.Mathlib.Omega.{arith}
-use lib.ListN.{length}
-use Rattle.walk.proofs.Sameness.{Alike, alike_start, lengths_not, alike_not, alike_on, alike_end}
+use Rattle.walk.proofs.Sameness.{alike_start, lengths_not, alike_not, alike_on, alike_end}
 use borrow.Author.Rules.{rules}
 use Rattle.walk.proofs.same_numbers.Goals as goal
 

@@ -1,5 +1,4 @@
 -- `walk::same_stop` meets its contract: case by case.
-use borrow.Author.Rules.{rules}
 use Rattle.walk.proofs.same_stop.Goals as goal
 
 pub returns-in-End-other : goal.returns-in-End-other

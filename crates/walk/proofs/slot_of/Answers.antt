@@ -1,4 +1,3 @@
-
 use Rattle.walk.proofs.Looking.{slot_low, slot_high}
 use Rattle.walk.proofs.slot_of.Goals as goal
 

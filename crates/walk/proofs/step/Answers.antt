@@ -1,12 +1,10 @@
 -- `walk::step` meets its contract: what is seen of the record, and what is made of it by its kind's entry.
-use mathlib.Core.Path.{refl, ap, subst}
+use mathlib.Core.Path.{refl, subst}
 use native.Mathlib.Omega.{arith}
 use Rattle.record.specs.declared.Looked.TheVariants as looked
 use Rattle.walk.specs.Code.{Few, Views}
-use Rattle.walk.specs.declared.Verdict.TheVariants.{Stop}
 use Rattle.walk.proofs.Seeing.{sees_within, sees_inside, says_meant, says_not_allowed}
 use Rattle.walk.proofs.Going.{steps_broken, steps_whole}
-use borrow.Author.Rules.{rules}
 use Rattle.walk.proofs.step.Goals as goal
 
 pub overflow_add-start : goal.overflow_add-start

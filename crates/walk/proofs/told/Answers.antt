@@ -1,4 +1,3 @@
-
 use borrow.Author.Tests.{ne_eqb}
 use Rattle.walk.specs.Code.{error_of}
 use Rattle.walk.proofs.told.Goals as goal

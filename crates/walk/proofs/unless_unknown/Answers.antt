@@ -1,4 +1,3 @@
-
 use borrow.Author.Tests.{eq-eqb, ne_eqb}
 use Rattle.walk.specs.Code.{unknown_of}
 use Rattle.walk.proofs.unless_unknown.Goals as goal

@@ -5,7 +5,6 @@ use Rattle.record.specs.Told.{told_looked}
 use Rattle.record.proofs.Read.{look_inside}
 use Rattle.walk.specs.Code.{looked_of}
 use Rattle.walk.proofs.Looking.{slot_within, slot_is}
-use borrow.Author.Rules.{rules}
 use Rattle.walk.proofs.view_at.Goals as goal
 
 pub returns-in_default : goal.returns-in_default

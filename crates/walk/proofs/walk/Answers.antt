@@ -1,5 +1,5 @@
 -- `walk::walk` meets its contract: it is the walk over the bytes that the limit leaves, and what it found; and what follows the end record.
-use mathlib.Core.Path.{◌≡◌, sym, ap, subst, ◌∙◌}
+use mathlib.Core.Path.{ap, subst, ◌∙◌}
 use native.Mathlib.Omega.{arith}
 use mathlib.Core.List.{List}
 use Prim.Native.Nat.{ℕ}
@@ -7,7 +7,6 @@ use lib.ListN.{length, length-take}
 use Rattle.walk.specs.Found.{Walks}
 use Rattle.walk.specs.Code.{ended_in}
 use Rattle.walk.proofs.Telling.{refused_found, ended_found}
-use borrow.Author.Rules.{rules}
 use Rattle.walk.proofs.walk.Goals as goal
 
 pub walk_cut-halted-requires : goal.walk_cut-halted-requires

@@ -1,12 +1,8 @@
 -- `walk::walk_cut` meets its contract. The loop's invariant: the cells stand for the records met so far, and the walk from the place on, with
 -- those that were noted, is the whole walk.
-use mathlib.Core.Path.{refl, sym, ap, ◌∙◌}
-use Prim.Native.Nat.{◌-◌}
 use native.Mathlib.Omega.{arith}
-use lib.ListN.{length}
-use Rattle.walk.proofs.Going.{Going, going_start, going_few, step_on, step_onward, step_end, step_stop}
+use Rattle.walk.proofs.Going.{going_start, going_few, step_on, step_onward, step_end, step_stop}
 use Rattle.walk.proofs.Standing.{stands_start}
-use borrow.Author.Rules.{rules}
 use Rattle.walk.proofs.walk_cut.Goals as goal
 
 pub loop-at-init : goal.loop-at-init

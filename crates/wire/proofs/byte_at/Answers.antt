@@ -1,5 +1,4 @@
 -- `wire::byte_at` meets its contract: past the end a list reads as the default.
-use borrow.Author.Rules.{rules}
 use mathlib.Core.Path.{sym}
 use lib.ListN.{get_or-eq_default}
 use Rattle.wire.proofs.byte_at.Goals as goal

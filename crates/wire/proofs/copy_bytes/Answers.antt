@@ -1,10 +1,10 @@
 -- `wire::copy_bytes` meets its contract. The loop's invariant: the output is as it was, with the bytes passed at its front.
 -- The measure is how many are left.
 use mathlib.Core.List.{List}
-use mathlib.Core.Path.{◌≡◌, refl, sym, ap, ◌∙◌}
-use Prim.Native.Nat.{ℕ, ◌≤◌, ◌-◌}
+use mathlib.Core.Path.{refl, sym, ap, ◌∙◌}
+use Prim.Native.Nat.{ℕ}
 use borrow.Author.Rules.{rules}
-use lib.ListN.{length, take, set, get_or, length-set}
+use lib.ListN.{set, get_or, length-set}
 use lib.Seq.{take_all}
 use Rattle.wire.specs.Over.{over}
 use Rattle.wire.proofs.Over.{over_none, over_more}

@@ -1,13 +1,9 @@
 -- `wire::copy_bytes` meets its contract. The loop's invariant: the output is as it was, with the bytes passed at its front.
 -- The measure is how many are left.
-use mathlib.Core.List.{List}
-use mathlib.Core.Path.{◌≡◌, refl, sym, ap, ◌∙◌}
-use Prim.Native.Nat.{ℕ, ◌≤◌, ◌-◌}
-use borrow.Author.Rules.{rules}
-use lib.ListN.{length, take, set, get_or, length-set}
-use lib.Seq.{take_all}
+use mathlib.Core.Path.{◌≡◌}
+use Prim.Native.Nat.{◌≤◌, ◌-◌}
+use lib.ListN.{length, take}
 use Rattle.wire.specs.Over.{over}
-use Rattle.wire.proofs.Over.{over_none, over_more}
 use Rattle.wire.proofs.copy_bytes.Given as goal
 
 abbrev pub invariant-loop-i : goal.invariant-loop-i

@@ -1,5 +1,4 @@
 -- `wire::number_at` meets its contract: past the end both bytes read as 0.
-use borrow.Author.Rules.{rules}
 use Rattle.wire.specs.Bytes.{number_at}
 use Rattle.wire.proofs.Bytes.{number_past}
 use Rattle.wire.proofs.number_at.Goals as goal

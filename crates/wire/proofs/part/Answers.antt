@@ -1,11 +1,9 @@
 -- `wire::part` meets its contract: where the part is not inside the answer is empty and lies at the front, as the definition says.
 use mathlib.Core.Path.{refl}
-use mathlib.Core.Logic.{⊎_elim}
-use Prim.Native.Nat.{◌+◌, ◌<◌, ◌≤◌}
+use Prim.Native.Nat.{◌+◌, ◌<◌}
 use native.Mathlib.Omega.{arith}
 use lib.ListN.{length}
-use borrow.Author.Rules.{rules}
-use borrow.Author.Tests.{ltb-true, ltb-false}
+use borrow.Author.Tests.{ltb-false}
 use Rattle.wire.proofs.Bytes.{part_none, part_some}
 use Rattle.wire.proofs.part.Goals as goal
 use Rattle.wire.proofs.part.Goals.{then-s-start-via-then-s-start, then-s-start-via-else-s-start+then-s-start-2}

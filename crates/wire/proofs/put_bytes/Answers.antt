@@ -1,7 +1,6 @@
 -- `wire::put_bytes` meets its contract: with room it is a copy, and its length is the count.
 use native.Mathlib.Omega.{arith}
 use Rattle.wire.proofs.Over.{as_put, tried_not, tried_put}
-use borrow.Author.Rules.{rules}
 use Rattle.wire.proofs.put_bytes.Goals as goal
 
 pub returns-then-out-src : goal.returns-then-out-src

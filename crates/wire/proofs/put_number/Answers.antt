@@ -2,7 +2,6 @@
 use native.Mathlib.Omega.{arith}
 use Rattle.wire.specs.Over.{bytes_of}
 use Rattle.wire.proofs.Over.{stores_over, as_put, tried_not, tried_put}
-use borrow.Author.Rules.{rules}
 use Rattle.wire.proofs.put_number.Goals as goal
 
 pub returns-then-out-lt2 : goal.returns-then-out-lt2

@@ -1,5 +1,4 @@
 -- `writing::ntske_append_denied` meets its contract: what the library's call answered and left is given.
-use borrow.Author.Rules.{rules}
 use Rattle.cells.specs.Cells.{counted}
 use Rattle.cells.proofs.Lent.{given}
 use Rattle.writing.proofs.ntske_append_denied.Goals as goal

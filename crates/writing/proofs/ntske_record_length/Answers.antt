@@ -1,5 +1,4 @@
 -- `writing::ntske_record_length` meets its contract: what the record's call answered is given, where the cells hold one.
-use borrow.Author.Rules.{rules}
 use mathlib.Core.Path.{refl, sym, ap, ◌∙◌}
 use Rattle.cells.specs.Cells.{counted}
 use Rattle.cells.proofs.Lent.{given}

@@ -1,5 +1,4 @@
 -- `writing::ntske_request_length` meets its contract: what the library's call answered is given.
-use borrow.Author.Rules.{rules}
 use Rattle.cells.specs.Cells.{counted}
 use Rattle.cells.proofs.Lent.{given}
 use Rattle.writing.proofs.ntske_request_length.Goals as goal

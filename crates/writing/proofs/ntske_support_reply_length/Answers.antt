@@ -1,5 +1,4 @@
 -- `writing::ntske_support_reply_length` meets its contract: what the library's call answered is given, where the number asks for a reply.
-use borrow.Author.Rules.{rules}
 use borrow.Author.Tests.{le-leb, lt-leb}
 use mathlib.Core.Path.{refl}
 use Rattle.cells.specs.Cells.{counted}

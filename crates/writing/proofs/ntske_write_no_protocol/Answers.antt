@@ -1,5 +1,4 @@
 -- `writing::ntske_write_no_protocol` meets its contract: what the library's call answered and left is given.
-use borrow.Author.Rules.{rules}
 use Rattle.cells.proofs.Lent.{wrote}
 use Rattle.writing.proofs.ntske_write_no_protocol.Goals as goal
 

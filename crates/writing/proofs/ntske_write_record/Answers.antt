@@ -1,5 +1,4 @@
 -- `writing::ntske_write_record` meets its contract: what the record's call answered and left is given, where the cells hold one.
-use borrow.Author.Rules.{rules}
 use mathlib.Core.Path.{refl, sym, ap, ◌∙◌}
 use Rattle.layout.specs.Write.{fitted, left_by, written}
 use Rattle.cells.proofs.Lent.{wrote}

@@ -1,5 +1,4 @@
 -- `writing::ntske_write_support_reply` meets its contract: what the library's call answered and left is given, where the number asks for a reply.
-use borrow.Author.Rules.{rules}
 use borrow.Author.Tests.{le-leb, lt-leb}
 use mathlib.Core.Path.{refl}
 use Rattle.layout.specs.Write.{fitted, left_by}

@@ -1,5 +1,4 @@
 -- `writing::record_in` meets its contract: its tests are the definition's, in the definition's order.
-use borrow.Author.Rules.{rules}
 use borrow.Author.Tests.{le-leb, lt-leb}
 use mathlib.Core.Path.{ap}
 use Rattle.writing.specs.Given.{is_record, record_in, held}

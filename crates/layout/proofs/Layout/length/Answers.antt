@@ -4,7 +4,6 @@ use Prim.Native.Nat.{ℕ, ◌+◌}
 use native.Mathlib.Omega.{arith}
 use Rattle.layout.specs.Write.{bytes}
 use Rattle.layout.proofs.Writing.{parts_fit, not_record, too_long, just_long}
-use borrow.Author.Rules.{rules}
 use Rattle.layout.proofs.Layout.length.Goals as goal
 
 pub body_size-size-requires : goal.body_size-size-requires

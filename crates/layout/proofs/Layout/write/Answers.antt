@@ -1,7 +1,6 @@
 -- `layout::Layout::write` meets its contract: the measure refuses first, then the room decides, and then all of the record is put.
 use native.Mathlib.Omega.{arith}
 use Rattle.layout.proofs.Writing.{found, measured_long, wrote_refused, wrote_short, wrote_all}
-use borrow.Author.Rules.{rules}
 use Rattle.layout.proofs.Layout.write.Goals as goal
 
 pub returns-in_default : goal.returns-in_default

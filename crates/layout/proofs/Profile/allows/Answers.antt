@@ -1,8 +1,5 @@
 -- `layout::Profile::allows` meets its contract: each arm knows the profile; the usual one asks nothing.
-use mathlib.Core.Path.{◌≡◌, sym, ap, ◌∙◌}
-use mathlib.Core.List.{List}
-use borrow.Author.Rules.{rules}
-use Prim.Native.Nat.{ℕ}
+use mathlib.Core.Path.{sym, ap, ◌∙◌}
 use Rattle.layout.specs.Profile.{asks_of, allows}
 use Rattle.layout.specs.declared.Profile.TheVariants.{Strict}
 use Rattle.layout.proofs.Profiles.{usual_allows}

@@ -1,5 +1,4 @@
 -- `layout::Profile::is_final` meets its contract: each arm knows the profile.
-use borrow.Author.Rules.{rules}
 use Rattle.layout.specs.Profile.{is_final}
 use Rattle.layout.proofs.Profile.is_final.Goals as goal
 

@@ -1,6 +1,5 @@
 -- `layout::Profile::taken` meets its contract: each arm knows the profile, and its test is for the kinds that the strict one knows.
 use mathlib.Core.Path.{sym}
-use borrow.Author.Rules.{rules}
 use Rattle.layout.specs.Profile.{taken_as}
 use Rattle.layout.proofs.Profiles.{taken_near, taken_far}
 use Rattle.layout.proofs.Profile.taken.Goals as goal

@@ -1,5 +1,4 @@
 -- `nts::NtsError::code` meets its contract: each arm knows the case, and the definition computes at it.
-use borrow.Author.Rules.{rules}
 use Rattle.nts.proofs.NtsError.code.Goals as goal
 
 pub returns-in-UnexpectedEof : goal.returns-in-UnexpectedEof

@@ -1,5 +1,4 @@
 -- `nts::NtsError::number` meets its contract: each arm knows the case, and the definition computes at it.
-use borrow.Author.Rules.{rules}
 use Rattle.nts.proofs.NtsError.number.Goals as goal
 
 pub returns-in-UnexpectedEof : goal.returns-in-UnexpectedEof

@@ -1,5 +1,4 @@
 -- `plan::Plan::append` meets its contract: the refusals are judged in their order, and then the field is put behind the used part.
-use borrow.Author.Rules.{rules}
 use native.Mathlib.Omega.{arith}
 use mathlib.Core.Path.{refl, sym, ap, ◌∙◌}
 use Rattle.nts.specs.declared.NtsError.TheVariants.{InvalidValue, InvalidInput, TableFull}

@@ -1,5 +1,4 @@
 -- `plan::Plan::length` meets its contract: what the walk counted is what the definition adds up.
-use borrow.Author.Rules.{rules}
 use native.Mathlib.Omega.{arith}
 use mathlib.Core.Path.{sym, ap, ◌∙◌}
 use Rattle.plan.specs.Code.{told_tally}

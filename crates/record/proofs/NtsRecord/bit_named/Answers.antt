@@ -1,6 +1,5 @@
 -- `record::NtsRecord::bit_named` meets its contract: it is the bit of the kind's row.
 use mathlib.Core.Path.{ap}
-use borrow.Author.Rules.{rules}
 use Rattle.layout.specs.declared.Row.{Row}
 use Rattle.record.proofs.NtsRecord.bit_named.Goals as goal
 

@@ -2,7 +2,6 @@
 use mathlib.Core.Path.{ap, ◌∙◌}
 use Rattle.layout.specs.Write.{measured}
 use Rattle.layout.specs.declared.Layout.{Layout}
-use borrow.Author.Rules.{rules}
 use Rattle.record.proofs.NtsRecord.length.Goals as goal
 
 pub returns : goal.returns

@@ -3,7 +3,6 @@ use mathlib.Core.Path.{refl, ap, sym, ◌∙◌}
 use native.Mathlib.Omega.{arith}
 use Rattle.record.specs.Told.{told_fault, told_parsed}
 use Rattle.record.proofs.Read.{from_rest, past_end, no_header, faulty, faultless}
-use borrow.Author.Rules.{rules}
 use Rattle.record.proofs.NtsRecord.parse.Goals as goal
 
 pub returns-then-message-at : goal.returns-then-message-at

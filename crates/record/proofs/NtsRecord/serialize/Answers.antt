@@ -1,5 +1,4 @@
 -- `record::NtsRecord::serialize` meets its contract: the record laid out is written.
-use borrow.Author.Rules.{rules}
 use Rattle.record.proofs.NtsRecord.serialize.Goals as goal
 
 pub returns : goal.returns

@@ -1,9 +1,8 @@
 -- `record::write::bit_of` meets its contract: the bit that the table names, and where that is the one given, false.
-use mathlib.Core.Path.{◌≡◌, sym, ap, ◌∙◌}
+use mathlib.Core.Path.{sym, ap, ◌∙◌}
 use mathlib.Core.Bool.{false}
 use Rattle.layout.specs.Table.{bit_by, bit_of}
 use Rattle.layout.specs.declared.Bit.{Bit}
-use borrow.Author.Rules.{rules}
 use Rattle.record.proofs.write.bit_of.Goals as goal
 
 pub returns-in-Set : goal.returns-in-Set

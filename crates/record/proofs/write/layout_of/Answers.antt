@@ -1,5 +1,4 @@
 -- `record::write::layout_of` meets its contract: each arm knows the case, whose kind and value the layout is made of.
-use borrow.Author.Rules.{rules}
 use Rattle.record.proofs.write.layout_of.Goals as goal
 
 pub returns-in-EndOfMessage : goal.returns-in-EndOfMessage

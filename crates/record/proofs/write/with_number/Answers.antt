@@ -1,5 +1,4 @@
 -- `record::write::with_number` meets its contract: shape and bit are the table's by the two calls.
-use borrow.Author.Rules.{rules}
 use Rattle.record.proofs.write.with_number.Goals as goal
 
 pub returns : goal.returns

@@ -1,5 +1,4 @@
 -- `record::write::with_parts` meets its contract: shape and bit are the table's by the two calls.
-use borrow.Author.Rules.{rules}
 use Rattle.record.proofs.write.with_parts.Goals as goal
 
 pub returns : goal.returns

@@ -2,7 +2,6 @@
 use Rattle.walk.specs.Finding.{as_finding}
 use Rattle.reply.specs.Reply.{offering}
 use Rattle.reply.proofs.Answering.{judged_refused, judged_fits, judged_ended}
-use borrow.Author.Rules.{rules}
 use Rattle.reply.proofs.KeyExchangeResponse.judge.Goals as goal
 
 pub decide-requires : goal.decide-requires

@@ -8,7 +8,6 @@ use Rattle.walk.specs.Found.{entry_in}
 use Rattle.walk.specs.Finding.{Found}
 use Rattle.reply.specs.Reply.{named_by}
 use Rattle.reply.specs.Code.{number_in}
-use borrow.Author.Rules.{rules}
 use Rattle.reply.proofs.KeyExchangeResponse.named.Goals as goal
 
 pub returns : goal.returns

@@ -1,7 +1,6 @@
 -- `reply::KeyExchangeResponse::parse` meets its contract: what is judged, and where there are cookies the table filled from the bytes that the walk covered.
 use native.Mathlib.Omega.{arith}
 use Rattle.reply.proofs.Answering.{place_inside, reads_none, reads_cookies}
-use borrow.Author.Rules.{rules}
 use Rattle.reply.proofs.KeyExchangeResponse.parse.Goals as goal
 
 pub returns-then-count-eq0 : goal.returns-then-count-eq0

@@ -3,7 +3,6 @@ use Rattle.walk.proofs.Telling.{found_own}
 use Rattle.layout.specs.declared.Profile.TheVariants.{Usual}
 use Rattle.request.specs.Request.{reader}
 use Rattle.request.proofs.Answering.{decides_found, decides_other}
-use borrow.Author.Rules.{rules}
 use Rattle.request.proofs.Request.decide.Goals as goal
 
 pub settle-requires : goal.settle-requires

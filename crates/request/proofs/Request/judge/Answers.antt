@@ -4,7 +4,6 @@ use Prim.Native.Nat.{ℕ}
 use Rattle.walk.specs.Finding.{as_finding}
 use Rattle.walk.proofs.Telling.{found_limit, found_own}
 use Rattle.request.specs.Request.{reader, request, told_by, told_answer}
-use borrow.Author.Rules.{rules}
 use Rattle.request.proofs.Request.judge.Goals as goal
 
 pub decision-answer-requires : goal.decision-answer-requires

@@ -4,7 +4,6 @@ use Prim.Native.Nat.{ℕ}
 use Rattle.walk.specs.Finding.{as_finding}
 use Rattle.walk.proofs.Telling.{found_limit, found_own}
 use Rattle.request.specs.Request.{reader, Reads}
-use borrow.Author.Rules.{rules}
 use Rattle.request.proofs.Request.parse.Goals as goal
 
 pub settle-requires : goal.settle-requires

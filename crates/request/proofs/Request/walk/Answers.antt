@@ -1,5 +1,4 @@
 -- `request::Request::walk` meets its contract: what the walk found, as one.
-use borrow.Author.Rules.{rules}
 use Rattle.request.proofs.Request.walk.Goals as goal
 
 pub returns : goal.returns

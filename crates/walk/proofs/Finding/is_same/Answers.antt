@@ -1,5 +1,4 @@
 -- `walk::Finding::is_same` meets its contract: limits, stops and cells are compared.
-use borrow.Author.Rules.{rules}
 use Rattle.walk.specs.Finding.{same_found}
 use Rattle.walk.proofs.Finding.is_same.Goals as goal
 
