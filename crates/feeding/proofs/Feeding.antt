@@ -12,7 +12,7 @@ use Rattle.cells.specs.Cells.{Given, cells, returned, word, unplaced}
 use Rattle.feeding.specs.Fed.{is_connection, line_in, line_cells, fed_word, fed_cells, says_in, Feeds}
 use Rattle.feeding.specs.Code.{no_line, line, kept_in}
 use Rattle.feeding.proofs.Holding.{kept_line, kept_none}
-use Rattle.feeding.proofs.Refusing.{Cause, Tells, told_by_lem, place_within}
+use Rattle.feeding.proofs.Refusing.{Cause, Tells, told_by, place_within}
 
 -- cells that hold no connection
 pub unheld : (X : Read) (f : X.Told → Given) (c b : List ℕ) (h : Brought) (terms : Terms) (t lent : List ℕ) {r : ℕ} → no_line ≡ kept_in c → r ≡ word (unplaced 9 nothing)
@@ -50,7 +50,7 @@ pub fed_place : (X : Read) (refuse : Refused → X.Told) → Tells X refuse → 
     → line x ≡ kept_in c → Hands X x b h terms t u x' b' t' → u ≡ says (refuse r) → r.place < 2 ^ 32
 fed_place X refuse tells c {b} {t} {h} {x} {x'} {u} {terms} {b'} {t'} r e p s =
     let k = kept_line c x e in
-    let q = told_by_lem X refuse tells x b h terms (held x' b') r (sym s ∙ p.answer) in
+    let q = told_by X refuse tells x b h terms (held x' b') r (sym s ∙ p.answer) in
     place_within X c r k.0 (subst (λ y. Cause X y r) k.1 q)
 
 -- what a contract says in this way, it says of one word and of one list of each sort

@@ -150,9 +150,9 @@ pub reply_tells : Tells reply_read replies.refused_with
 reply_tells m (judge.refused y) r e = let z : y ≡ r = cc in ap (λ s. judge.refused s) z
 reply_tells m (judge.accepted (replies.reply p a s t k c)) r e = let z : ◌≡◌ {A = ℕ} 0 1 = cc in absurd (omega arith)
 
-pub told_by_lem : (X : Read) (refuse : Refused → X.Told) → Tells X refuse → (c : Line) (b : List ℕ) (h : Brought) (x : Terms) (m : List ℕ) (r : Refused)
+pub told_by : (X : Read) (refuse : Refused → X.Told) → Tells X refuse → (c : Line) (b : List ℕ) (h : Brought) (x : Terms) (m : List ℕ) (r : Refused)
     → says (refuse r) ≡ says_of X m (answer_of X c b h x) → Cause X c r
-told_by_lem X refuse tells c b h x m r e = go (answer_of X c b h x) refl e
+told_by X refuse tells c b h x m r e = go (answer_of X c b h x) refl e
   where
     go : (a : Fed X.judging.Q) → answer_of X c b h x ≡ a → says (refuse r) ≡ says_of X m a → Cause X c r
     go none p q = let z : ◌≡◌ {A = ℕ} 0 1 = cc in absurd (omega arith)

@@ -60,7 +60,7 @@ pub fn ntske_feed_request(
     table: &mut [u16],
     answer: &mut [usize; 10],
 ) -> u64
-    ensures { Feeds request_read request_given connection.old buffer.old (record { piece = piece.entry.now; closed = false }) (room_for (room_of table.old)) table.old answer.old
+    ensures { Feeds request_read request_given connection.old buffer.old (record { piece = piece.now; closed = false }) (room_for (room_of table.old)) table.old answer.old
         result connection.new buffer.new table.new answer.new }
 {
     fed_request(connection, buffer, table, answer, false, piece)
@@ -91,7 +91,7 @@ pub fn ntske_feed_reply(
     table: &mut [u16],
     answer: &mut [usize; 9],
 ) -> u64
-    ensures { Feeds reply_read reply_given connection.old buffer.old (record { piece = piece.entry.now; closed = false }) (offering protocols.now algorithms.now (room_of table.old)) table.old answer.old
+    ensures { Feeds reply_read reply_given connection.old buffer.old (record { piece = piece.now; closed = false }) (offering protocols.now algorithms.now (room_of table.old)) table.old answer.old
         result connection.new buffer.new table.new answer.new }
 {
     fed_reply(
@@ -134,7 +134,7 @@ fn fed_request(
     closed: bool,
     piece: &[u8],
 ) -> u64
-    ensures { Feeds request_read request_given connection.old buffer.old (record { piece = piece.entry.now; closed = closed }) (room_for (room_of table.old)) table.old answer.old
+    ensures { Feeds request_read request_given connection.old buffer.old (record { piece = piece.now; closed = closed }) (room_for (room_of table.old)) table.old answer.old
         result connection.new buffer.new table.new answer.new }
 {
     let kept = connection_in(connection);
@@ -165,7 +165,7 @@ fn fed_reply(
     protocols: &[u16],
     algorithms: &[u16],
 ) -> u64
-    ensures { Feeds reply_read reply_given connection.old buffer.old (record { piece = piece.entry.now; closed = closed }) (offering protocols.now algorithms.now (room_of table.old)) table.old answer.old
+    ensures { Feeds reply_read reply_given connection.old buffer.old (record { piece = piece.now; closed = closed }) (offering protocols.now algorithms.now (room_of table.old)) table.old answer.old
         result connection.new buffer.new table.new answer.new }
 {
     let kept = connection_in(connection);

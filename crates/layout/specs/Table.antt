@@ -12,7 +12,7 @@ row body bit = record { body = body; bit = bit }
 unfoldable pub row_of : ℕ → Row
 row_of k =
     cond (eqb k 0) (row Skipped Set)  -- end
-    (cond (eqb k 8) (row Skipped Clear)  -- keep_alive
+    (cond (eqb k 8) (row Skipped Clear)  -- keep-alive
     (cond (eqb k 1 || eqb k 4 || eqb k 9) (row Numbers Set)  -- protocols, algorithms, supported protocols
     (cond (eqb k 2 || eqb k 3 || eqb k 7) (row Number Set)  -- error, warning, port
     (cond (eqb k 5) (row Bytes Clear)  -- cookie

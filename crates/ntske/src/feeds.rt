@@ -37,7 +37,7 @@ pub extern "C" fn ntske_feed_request(
     table: &mut [u16],
     answer: &mut [usize; 10],
 ) -> u64
-    ensures { Feeds request_read request_given connection.old buffer.old (record { piece = piece.entry.now; closed = false }) (room_for (room_of table.old)) table.old answer.old
+    ensures { Feeds request_read request_given connection.old buffer.old (record { piece = piece.now; closed = false }) (room_for (room_of table.old)) table.old answer.old
         result connection.new buffer.new table.new answer.new }
 {
     feeding::ntske_feed_request(connection, piece, buffer, table, answer)
@@ -68,7 +68,7 @@ pub extern "C" fn ntske_feed_reply(
     table: &mut [u16],
     answer: &mut [usize; 9],
 ) -> u64
-    ensures { Feeds reply_read reply_given connection.old buffer.old (record { piece = piece.entry.now; closed = false }) (offering protocols.now algorithms.now (room_of table.old)) table.old answer.old
+    ensures { Feeds reply_read reply_given connection.old buffer.old (record { piece = piece.now; closed = false }) (offering protocols.now algorithms.now (room_of table.old)) table.old answer.old
         result connection.new buffer.new table.new answer.new }
 {
     feeding::ntske_feed_reply(

@@ -1,4 +1,4 @@
--- What the contract of `hand_over` says, as a fact: what `Reads` has of a function that needs no walk by hand. That it is the contract is `learnt_is`.
+-- What the contract of `hand_over` says, as a fact. That it is the contract is `learnt_is`.
 -- Assumes nothing.
 use mathlib.Core.Path.{◌≡◌, refl}
 use seplogic.Ra.Ura.{Ura}

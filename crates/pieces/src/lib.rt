@@ -787,8 +787,8 @@ pub fn hand_over(
     buffer: &mut [u8],
     table: &mut [u16],
 ) -> Answer
-    ensures { HandsOver connection.entry.now expected piece.now closed protocols.now algorithms.now buffer.old table.old
-        (record { connection = connection.exit.now; answer = result }) buffer.new table.new }
+    ensures { HandsOver connection.old expected piece.now closed protocols.now algorithms.now buffer.old table.old
+        (record { connection = connection.new; answer = result }) buffer.new table.new }
 {
     let s = hand(
         *connection,

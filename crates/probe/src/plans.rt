@@ -314,7 +314,7 @@ fn append_next(cookies: &[u8], made: Made, tray: &mut [u8], before: &mut [u8]) -
 fn after(made: Made, step: Step, next: usize) -> Made {
     let plan = step.plan;
     let cookies = if step.refused == 0 {
-        one_more_lem(made.cookies)
+        one_more(made.cookies)
     } else {
         made.cookies
     };
@@ -327,7 +327,7 @@ fn after(made: Made, step: Step, next: usize) -> Made {
     }
 }
 
-fn one_more_lem(n: u8) -> u8 {
+fn one_more(n: u8) -> u8 {
     if n < 255 {
         return n + 1;
     }

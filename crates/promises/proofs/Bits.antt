@@ -72,7 +72,7 @@ pub record Named (k : ℕ) (r : Bit) : Type 1 where
   pub a : _
   pub e : _
   pub met : bit_named_lem.Learnt κs a r e
-  pub of_kind_lem : a.0 ≡ k
+  pub of_kind : a.0 ≡ k
 
 looked : (P : Profile) (m : List ℕ) (at : ℕ) (r : Looked) → LookedAt P m at r → told_looked r ≡ look_at (shape_in P) m at
 looked P m at r c = rw (← c.of_profile, ← c.of_message, ← c.of_place) c.met
@@ -188,4 +188,4 @@ listing_bit m n l₁ l₂ x q r c =
 pub named_written : (x : NtsRecord) (s o : List ℕ) (n : ℕ) (o' : List ℕ) → Serialized x s o (Bytes n) o' → (b : Bit) → Named (kind_of_record x) b → critical o' ≡ bit_by b (given_bit x)
 unfolding bit_of
 named_written x s o n o' c b d =
-    serialize_bit x s o n o' c ∙ ap (λ (q : Bit). bit_by q (given_bit x)) (sym (d.met ∙ ap bit_named d.of_kind_lem))
+    serialize_bit x s o n o' c ∙ ap (λ (q : Bit). bit_by q (given_bit x)) (sym (d.met ∙ ap bit_named d.of_kind))

@@ -300,8 +300,8 @@ module _ (X : Read) (L : Local X) (P : Profile) where
     abbrev from : Came
     from = comes R c x.lent h
 
-    comes_to_lem : from ≡ to
-    comes_to_lem = comes_is P R n b j c x.lent w h
+    comes_to : from ≡ to
+    comes_to = comes_is P R n b j c x.lent w h
 
     is_pending_lem : is_pending c x.lent ≡ true
     is_pending_lem = waits_pending P R n b j c x.lent w
@@ -315,7 +315,7 @@ module _ (X : Read) (L : Local X) (P : Profile) where
         ap (λ (Q : Profile). answer_after X Q c.limit (comes (X.reader Q) c x.lent h).how (take (comes (X.reader Q) c x.lent h).gathered (joined c x.lent h)) x.terms) w.profile
         ∙ ap (λ (k : ℕ). answer_after X P k from.how (take from.gathered (joined c x.lent h)) x.terms) w.limit
         ∙ ap (λ (s : List ℕ). given n x.terms s from) joins
-        ∙ ap (given n x.terms piece) comes_to_lem
+        ∙ ap (given n x.terms piece) comes_to
 
     pub answer_of_lem : answer_of X c x.lent h x.terms ≡ given n x.terms piece to
     unfolding answer_of
@@ -335,7 +335,7 @@ module _ (X : Read) (L : Local X) (P : Profile) where
         ∙ ap (λ (t : Bool). cond t (line_by c.profile c.limit (comes (X.reader c.profile) c x.lent h) (first_answer X c x.lent h x.terms)) c) is_pending_lem
         ∙ ap (λ (Q : Profile). line_by Q c.limit (comes (X.reader Q) c x.lent h) (first_answer X c x.lent h x.terms)) w.profile
         ∙ ap (λ (k : ℕ). line_by P k from (first_answer X c x.lent h x.terms)) w.limit
-        ∙ ap (λ (y : Came). line_by P n y (first_answer X c x.lent h x.terms)) comes_to_lem
+        ∙ ap (λ (y : Came). line_by P n y (first_answer X c x.lent h x.terms)) comes_to
         ∙ ap (line_by P n to) first_is
 
     left_is : x.left ≡ over (take to.gathered piece) b
@@ -345,7 +345,7 @@ module _ (X : Read) (L : Local X) (P : Profile) where
         ∙ ap (λ (t : Bool). cond t (over (take (comes (X.reader c.profile) c x.lent h).gathered (joined c x.lent h)) x.lent) x.lent) is_pending_lem
         ∙ ap (λ (Q : Profile). over (take (comes (X.reader Q) c x.lent h).gathered (joined c x.lent h)) x.lent) w.profile
         ∙ ap (λ (s : List ℕ). over (take from.gathered s) x.lent) joins
-        ∙ ap (λ (y : Came). over (take y.gathered piece) x.lent) comes_to_lem
+        ∙ ap (λ (y : Came). over (take y.gathered piece) x.lent) comes_to
         ∙ ap (over (take to.gathered piece)) w.left
         ∙ over_again j (take to.gathered piece) b (omega (arith, came_long P R n b j c x.lent w h, front_long P R n b j c x.lent w h))
 

@@ -8,7 +8,7 @@ use Rattle.reply.proofs.Order.{reply_ordered}
 use Rattle.promises.specs.Handed as requests
 use Rattle.promises.specs.HandedReply as replies
 use Rattle.promises.specs.Demand3.{Reader, Demand3}
-use Rattle.promises.specs.Called.{request_defined, reply_defined, request_parse, reply_parse, request_read_lem, request_read_strict, reply_read_lem, reply_read_strict}
+use Rattle.promises.specs.Called.{request_defined, reply_defined, request_parse, reply_parse, request_read, request_read_strict, reply_read, reply_read_strict}
 use Rattle.promises.proofs.Steady.{Faithful, by_definition, of_whole, by_calls}
 use Rattle.promises.proofs.Handing.{request_faithful}
 use Rattle.promises.proofs.HandingReply.{reply_faithful}
@@ -30,8 +30,8 @@ pub request_parse_demand : Demand3 request_parse
 request_parse_demand = request_calls request_parse request_faithful
 
 -- of calls of ntske_read_request and ntske_read_request_strict: what is in hand by their cells and the table
-pub read_request_demand : Demand3 request_read_lem
-read_request_demand = request_calls request_read_lem request_hosted
+pub read_request_demand : Demand3 request_read
+read_request_demand = request_calls request_read request_hosted
 
 pub read_request_strict_demand : Demand3 request_read_strict
 read_request_strict_demand = request_calls request_read_strict request_hosted_strict
@@ -49,8 +49,8 @@ pub reply_parse_demand : Demand3 reply_parse
 reply_parse_demand = reply_calls reply_parse reply_faithful
 
 -- of calls of ntske_read_reply and ntske_read_reply_strict
-pub read_reply_demand : Demand3 reply_read_lem
-read_reply_demand = reply_calls reply_read_lem reply_hosted
+pub read_reply_demand : Demand3 reply_read
+read_reply_demand = reply_calls reply_read reply_hosted
 
 pub read_reply_strict_demand : Demand3 reply_read_strict
 read_reply_strict_demand = reply_calls reply_read_strict reply_hosted_strict

@@ -20,7 +20,7 @@ use Rattle.messages.specs.Messages.{reply_checked, support_length, support_check
 use Rattle.handing.specs.Handed.{key_given}
 use Rattle.planning.specs.Planned as planned
 use Rattle.planning.specs.Planned.{is_plan, plan_in, changed, appended, planned_length, planned_reply}
-use Rattle.writing.specs.Given as goal
+use Rattle.writing.specs.Given as given
 use Rattle.writing.specs.Given.{item_of, record_in, held_length, asked_of, support_count}
 use Rattle.promises.specs.Numbers.{Exactly, of_count, of_appended, of_given, key_numbers, plan_numbers, append_numbers, reply_writer_numbers, length_numbers, writer_numbers, HostCookie, HostReply, HostSupport}
 use Rattle.promises.proofs.Bearing.{Within, only_of, if_within, fitted_within, with_room}
@@ -39,8 +39,8 @@ key_exactly = record { only = λ n. only_of key_numbers (of_given (key_given n (
 -- ---- a plan in cells
 
 -- a plan for protocol 0 and algorithm 15 of which so many bytes are used, and cells that hold none
-abbrev plan_of_lem : ℕ → List ℕ
-plan_of_lem n = 0 ∷ 15 ∷ 0 ∷ 0 ∷ 0 ∷ 0 ∷ 0 ∷ n ∷ []
+abbrev plan_of : ℕ → List ℕ
+plan_of n = 0 ∷ 15 ∷ 0 ∷ 0 ∷ 0 ∷ 0 ∷ 0 ∷ n ∷ []
 
 abbrev no_plan_lem : List ℕ
 no_plan_lem = 65536 ∷ 15 ∷ 0 ∷ 0 ∷ 0 ∷ 0 ∷ 0 ∷ 0 ∷ []
@@ -59,12 +59,12 @@ unfolding number_at fields_from fields_in cookies_in plan.append is_plan plan_in
 cells_append_exactly = record {
   only = λ x. only_of append_numbers (of_appended (appended (plan_in x.cells) x.cookie x.tray)) (go (plan_in x.cells) x.cookie x.tray);
   each = (
-    (record { cells = plan_of_lem 24; cookie = []; tray = eight }, refl),
+    (record { cells = plan_of 24; cookie = []; tray = eight }, refl),
     (
-      (record { cells = plan_of_lem 0; cookie = long; tray = [] }, rw long_length),
+      (record { cells = plan_of 0; cookie = long; tray = [] }, rw long_length),
       (
         (record { cells = no_plan_lem; cookie = []; tray = [] }, refl),
-        ((record { cells = plan_of_lem 0; cookie = []; tray = [] }, refl), tt),
+        ((record { cells = plan_of 0; cookie = []; tray = [] }, refl), tt),
       ),
     ),
   );
@@ -92,8 +92,8 @@ cells_reply_exactly = record {
   each = (
     (record { cells = no_plan_lem; tray = []; server = []; room = 0 }, refl),
     (
-      (record { cells = plan_of_lem 0; tray = []; server = []; room = 0 }, refl),
-      ((record { cells = plan_of_lem 3; tray = 1 ∷ 0 ∷ 0 ∷ []; server = []; room = 0 }, refl), tt),
+      (record { cells = plan_of 0; tray = []; server = []; room = 0 }, refl),
+      ((record { cells = plan_of 3; tray = 1 ∷ 0 ∷ 0 ∷ []; server = []; room = 0 }, refl), tt),
     ),
   );
 }
@@ -123,17 +123,17 @@ support_written_exactly =
 -- ---- a record in cells
 
 pub held_length_exactly : Exactly (λ (x : List ℕ × List ℕ). of_count (held_length (record_in x.0) x.1)) length_numbers
-unfolding row_of shape_of bit_of is_inside is_sound is_record is_number body_size measured goal.is_record item_of record_in
+unfolding row_of shape_of bit_of is_inside is_sound is_record is_number body_size measured given.is_record item_of record_in
 held_length_exactly = record {
   only = λ x. only_of length_numbers (of_count (held_length (record_in x.0) x.1)) (go (record_in x.0) x.1);
   each = (((5 ∷ 0 ∷ 0 ∷ 0 ∷ 65536 ∷ 0 ∷ 0 ∷ [], long), rw long_length), (((65536 ∷ 0 ∷ 0 ∷ 0 ∷ 0 ∷ 0 ∷ 0 ∷ [], []), refl), tt));
 }
   where
-    go : (h : goal.Held) (s : List ℕ) → Within length_numbers (of_count (held_length h s))
-    go goal.no_record s = refl
-    go (goal.held x) s = measured_within (layout_of x) s
+    go : (h : given.Held) (s : List ℕ) → Within length_numbers (of_count (held_length h s))
+    go given.no_record s = refl
+    go (given.held x) s = measured_within (layout_of x) s
 
 pub held_written_exactly : Exactly (λ (x : (List ℕ × List ℕ) × ℕ). of_count (fitted x.1 (held_length (record_in x.0.0) x.0.1))) writer_numbers
-unfolding row_of shape_of bit_of is_inside is_sound is_record is_number body_size measured goal.is_record item_of record_in
+unfolding row_of shape_of bit_of is_inside is_sound is_record is_number body_size measured given.is_record item_of record_in
 held_written_exactly =
     with_room (λ (x : List ℕ × List ℕ). held_length (record_in x.0) x.1) length_numbers held_length_exactly (0 ∷ 0 ∷ 0 ∷ 0 ∷ 0 ∷ 0 ∷ 0 ∷ [], []) 4 (omega arith) refl

@@ -103,23 +103,23 @@ module _ (P : Profile) (m : List ℕ) (n : ℕ) (table lent : List ℕ) (r : ℕ
       (y.0, y.1, y.2, (request_exactly P).only (record { message = m; limit = n; room = room_of table }) y.0.number (ap of_answer y.1))
 
   -- .. and which it tells whole: the number, the number beside it, and the place. A message is bytes
-  pub request_told_lem : (y : Refused) → request P m n (room_of table) ≡ refused y → ((i : ℕ) → get_or m i 0 < 256)
+  pub request_told : (y : Refused) → request P m n (room_of table) ≡ refused y → ((i : ℕ) → get_or m i 0 < 256)
       → (r % 256 ≡ y.number) × (r / 256 % 256 ≡ sort_of y.beside) × (r / 65536 % 65536 ≡ beside_number y.beside) × (r / 4294967296 ≡ y.place)
-  request_told_lem = told_apart (hosted_request P) c
+  request_told = told_apart (hosted_request P) c
 
 -- ntske_read_reply and ntske_read_reply_strict in the same way
 module _ (P : Profile) (m : List ℕ) (n : ℕ) (ps qs table lent : List ℕ) (r : ℕ) (table' after : List ℕ) (c : ReadsReply P m n ps qs table lent r table' after) where
   pub reply_word : r ≡ 0 → (q : replies.Form Sighting) × (reply_of P m n (offering ps qs (room_of table)) ≡ accepted q)
   reply_word = granted (hosted_reply P) {e = (ps, qs)} c
 
-  pub reply_bears_lem : (r ≡ 0 → ⊥) → (y : Refused) × (reply_of P m n (offering ps qs (room_of table)) ≡ refused y) × (r ≡ word y) × In y.number (reply_numbers P)
-  reply_bears_lem h =
+  pub reply_bears : (r ≡ 0 → ⊥) → (y : Refused) × (reply_of P m n (offering ps qs (room_of table)) ≡ refused y) × (r ≡ word y) × In y.number (reply_numbers P)
+  reply_bears h =
       let y = bears (hosted_reply P) {e = (ps, qs)} c h in
       (y.0, y.1, y.2, (reply_exactly P).only (record { message = m; limit = n; terms = offering ps qs (room_of table) }) y.0.number (ap of_answer y.1))
 
-  pub reply_told_lem : (y : Refused) → reply_of P m n (offering ps qs (room_of table)) ≡ refused y → ((i : ℕ) → get_or m i 0 < 256)
+  pub reply_told : (y : Refused) → reply_of P m n (offering ps qs (room_of table)) ≡ refused y → ((i : ℕ) → get_or m i 0 < 256)
       → (r % 256 ≡ y.number) × (r / 256 % 256 ≡ sort_of y.beside) × (r / 65536 % 65536 ≡ beside_number y.beside) × (r / 4294967296 ≡ y.place)
-  reply_told_lem = told_apart (hosted_reply P) {e = (ps, qs)} c
+  reply_told = told_apart (hosted_reply P) {e = (ps, qs)} c
 
 -- ntske_key_length, where it refuses: 5, the algorithm's number beside it, which has sixteen bits, and no place
 pub key_length_told : (κs : _) (a : _) (r : _) (e : _) → key_length.Learnt κs a r e → a.0 < 65536 → (r ≡ 0 → ⊥)

@@ -25,7 +25,7 @@ use Rattle.record.specs.Shown.{shown, given_bit, IsCanonical}
 use Rattle.record.specs.declared.NtsRecord.{NtsRecord}
 use Rattle.record.proofs.Bits.{read_bit, read_inside}
 use Rattle.cells.specs.Cells.{returned, Gives, counted, Writes, cell, flag}
-use Rattle.cells.specs.Cells as goal
+use Rattle.cells.specs.Cells as given
 use Rattle.cells.proofs.Lent.{gives_granted}
 use Rattle.reading.specs.Read.{value_cells, record_given, bit_cell}
 use Rattle.reading.proofs.ntske_read_record.Reads as read_record
@@ -60,7 +60,7 @@ writes_measured c s o lent r o' w p x n h e room =
     let f : fitted (length o) (held_length (record_in c) s) ≡ bytes n = ap (fitted (length o)) m ∙ rw (le-ltb (length o) n room) in
     let b : held_bytes (record_in c) s ≡ record_bytes (layout_of x) s = ap (λ (y : Held). held_bytes y s) h in (
       p.gives.says ∙ ap (λ (a : Count). returned (counted a)) f,
-      p.gives.left ∙ ap (λ (a : Count). goal.held (counted a) lent) f,
+      p.gives.left ∙ ap (λ (a : Count). given.held (counted a) lent) f,
       p.wrote ∙ ap (λ (a : Count). left_by a (held_bytes (record_in c) s) o) f ∙ ap (λ (l : List ℕ). over l o) b,
     )
 
@@ -125,7 +125,7 @@ write_record_read c s o lent r o' w p z lent₂ r₂ after₂ g =
       k.item,
       k.held_is,
       y.0,
-      g.left ∙ ap (λ (t : Told). goal.held (record_given t) lent₂) e,
+      g.left ∙ ap (λ (t : Told). given.held (record_given t) lent₂) e,
       ap (shown y.0) k.left ∙ y.2,
     )
 

@@ -24,7 +24,7 @@ use Rattle.reading.specs.Read.{request_given, ReadsRequest}
 use Rattle.deciding.specs.Given.{finding_cells, found_in}
 use Rattle.deciding.proofs.Back.{found_back, cells_alike, alike_told}
 use Rattle.promises.specs.Handed as requests
-use Rattle.promises.specs.Called.{ReadRequest, request_read_lem}
+use Rattle.promises.specs.Called.{ReadRequest, request_read}
 use Rattle.promises.specs.Demand3.{Demand3}
 use Rattle.promises.specs.Numbers.{In, request_numbers}
 use Rattle.promises.specs.Findings.{count_of, is_of, is_other, sum_of, lines_in}
@@ -68,7 +68,7 @@ hosted_pair_reads c = as_read c.walked c.decided c.message (ap found_in c.handed
 
 -- "The pair gives the old answer for every input": of a pair and of a call of ntske_read_request on the same message, under the same limit, with the same table and cells, the
 -- words are the same and so are the tables and the cells that they leave
-pub hosted_pair_answers : (c : HostedPair) (d : ReadRequest) → hosted_pair.asked c ≡ request_read_lem.asked d → c.walked.a.1.0 ≡ d.a.1.0 → c.decided.a.1.1.0.now ≡ d.a.1.1.0.now
+pub hosted_pair_answers : (c : HostedPair) (d : ReadRequest) → hosted_pair.asked c ≡ request_read.asked d → c.walked.a.1.0 ≡ d.a.1.0 → c.decided.a.1.1.0.now ≡ d.a.1.1.0.now
     → c.decided.a.1.1.1.0.now ≡ d.a.1.1.1.0.now
     → (c.decided.answer ≡ d.answer) × (c.decided.e.1.1.0.now ≡ d.e.1.1.0.now) × (c.decided.e.1.1.1.0.now ≡ d.e.1.1.1.0.now)
 hosted_pair_answers c d m n t l =

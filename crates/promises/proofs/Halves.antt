@@ -164,14 +164,14 @@ module _ (x : Plan) (s : List ℕ) (utf8 : well_formed s ≡ true) (l : List (Li
   -- a key-exchange reply as it is written, whatever follows it and under every limit that holds it, is accepted by the reply reader, if its protocol and
   -- its algorithm were offered, it has a cookie and the table room for all of them: and the reader shows the plan's protocol and algorithm, the server's name if one is
   -- planned, the port if one is planned, keep-alive as planned, and the cookies in their order
-  pub reply_read_lem : (t : List ℕ) (n : ℕ) (y : Terms) → 1 ≤ length l → length l ≤ y.room → y.protocols x.protocol.0 ≡ true → y.algorithms x.algorithm.0 ≡ true
+  pub reply_read : (t : List ℕ) (n : ℕ) (y : Terms) → 1 ≤ length l → length l ≤ y.room → y.protocols x.protocol.0 ≡ true → y.algorithms x.algorithm.0 ≡ true
       → length (message_of (reply_records x s l)) ≤ n
       → (q : reply.Form Sighting)
       × (reply_of Usual (message_of (reply_records x s l) ++ t) n y ≡ accepted q)
       × (reply.map_form (body_in (message_of (reply_records x s l) ++ t)) q
       ≡ reply.reply (bytes_of x.protocol.0) (bytes_of x.algorithm.0) (server_sent x.name s) (port_sent x.port) x.keep_alive l)
   unfolding reply_of shape_of act_by asks_of is_final shape_in knows allows row_of reply.act
-  reply_read_lem t n y h g op oa f =
+  reply_read t n y h g op oa f =
       message_shows (reply.reader Usual) reply.judging (reply_lawful Usual) (record { profile = Usual; limit = n; terms = y }) (reply_records x s l) t reply_bodies reply_noted reply_once refl refl f refl _
       (reply_decided y h g op oa)
 
@@ -244,13 +244,13 @@ module _ (protocols algorithms : List ℕ) (names : List (List ℕ)) (utf8 : all
   -- a key-exchange request as it is written, whatever follows it and under every limit that holds it, is accepted by the request reader as a
   -- key-exchange request, if its names are UTF-8 and the table has room for all of them: and the reader shows the protocols, the algorithms
   -- and the denied names, each in their order
-  pub request_read_lem : (t : List ℕ) (n room : ℕ) → length names ≤ room → length (message_of (request_records protocols algorithms names)) ≤ n
+  pub request_read : (t : List ℕ) (n room : ℕ) → length names ≤ room → length (message_of (request_records protocols algorithms names)) ≤ n
       → (q : request.Form Sighting)
       × (request.request Usual (message_of (request_records protocols algorithms names) ++ t) n room ≡ accepted q)
       × (request.map_form (body_in (message_of (request_records protocols algorithms names) ++ t)) q
       ≡ request.key_exchange (cell_bytes protocols) (cell_bytes algorithms) names)
   unfolding request.request shape_of act_by asks_of is_final shape_in knows allows row_of
-  request_read_lem t n room g f =
+  request_read t n room g f =
       message_shows (request.reader Usual) request.judging (request_lawful Usual) (record { profile = Usual; limit = n; terms = room_for room }) (request_records protocols algorithms names) t request_bodies
       request_noted request_once refl refl f refl _ (request_decided room g)
 

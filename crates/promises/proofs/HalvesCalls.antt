@@ -43,7 +43,7 @@ use Rattle.promises.specs.Called.{ParseRequest, ParseReply, request_parse, reply
 use Rattle.promises.proofs.Steady.{Faithful}
 use Rattle.promises.proofs.Handing.{request_faithful}
 use Rattle.promises.proofs.HandingReply.{reply_faithful}
-use Rattle.promises.proofs.Halves.{number_of_lem, server_sent, port_sent, reply_read_lem, unoffered, protocol_unoffered, algorithm_unoffered, reply_unoffered, request_read_lem, no_protocol_read, no_algorithm_read, error_read}
+use Rattle.promises.proofs.Halves.{number_of_lem, server_sent, port_sent, reply_read, unoffered, protocol_unoffered, algorithm_unoffered, reply_unoffered, request_read, no_protocol_read, no_algorithm_read, error_read}
 
 -- ---- calls of the writers: what each function's own contract says
 
@@ -137,14 +137,14 @@ port_number (port.Number n) = sent n
 
 -- what is in hand of the bodies that a written reply shows
 
-port_of_lem : (y : Port) → map_sent (λ (b : List ℕ). number_at b 0) (port_sent y) ≡ port_number y
-port_of_lem port.None = refl
-port_of_lem (port.Number n) = ap sent (number_of_lem n)
+port_of : (y : Port) → map_sent (λ (b : List ℕ). number_at b 0) (port_sent y) ≡ port_number y
+port_of port.None = refl
+port_of (port.Number n) = ap sent (number_of_lem n)
 
-reply_in_hand_lem : (x : Plan) (server : List ℕ) (l : List (List ℕ))
+reply_in_hand : (x : Plan) (server : List ℕ) (l : List (List ℕ))
     → reply_hand.in_hand (reply.reply (bytes_of x.protocol.0) (bytes_of x.algorithm.0) (server_sent x.name server) (port_sent x.port) x.keep_alive l)
     ≡ reply_hand.reply x.protocol.0 x.algorithm.0 (server_sent x.name server) (port_number x.port) x.keep_alive (length l) l
-reply_in_hand_lem x server l = rw (number_of_lem x.protocol.0, number_of_lem x.algorithm.0, port_of_lem x.port)
+reply_in_hand x server l = rw (number_of_lem x.protocol.0, number_of_lem x.algorithm.0, port_of x.port)
 
 -- the end record is the last four bytes
 at_end : (f : List ℕ) (k : ℕ) → k ≡ length (f ++ end_record) → length f ≡ k - 4
@@ -176,8 +176,8 @@ module _ (x : Plan) (tray server out : List ℕ) (k : ℕ) (after : List ℕ) (w
       let s = v.stands (length_reply x server l j.named ∙ ap (reply_length x) e ∙ sym j.long) in (
         s.inside,
         λ t c a p h g op oa.
-            let d = reply_read_lem x server j.utf8 l t (reply_parse.under c).limit (reply_parse.under c).terms some g op oa (omega (arith, s.long)) in
-            subst (reply_parse.Accepts c) (reply_in_hand_lem x server l) (shown_back reply_faithful m after k s t c a p _ d),
+            let d = reply_read x server j.utf8 l t (reply_parse.under c).limit (reply_parse.under c).terms some g op oa (omega (arith, s.long)) in
+            subst (reply_parse.Accepts c) (reply_in_hand x server l) (shown_back reply_faithful m after k s t c a p _ d),
       )
 
   -- where the lists do not hold the plan's protocol, or hold it and not its algorithm, the same call refuses with 17 and just that number, at the place of the end record,
@@ -237,7 +237,7 @@ module _ (protocols algorithms tray : List ℕ) (used : ℕ) (out : List ℕ) (k
       let s = v.stands (length_request protocols algorithms l ∙ ap (request_length protocols algorithms) e ∙ sym j.long) in (
         s.inside,
         λ t c a p h g.
-            let d = request_read_lem protocols algorithms l utf8 t (request_parse.under c).limit (request_parse.under c).terms.room g (omega (arith, s.long)) in
+            let d = request_read protocols algorithms l utf8 t (request_parse.under c).limit (request_parse.under c).terms.room g (omega (arith, s.long)) in
             shown_back request_faithful m after k s t c a p _ d,
       )
 

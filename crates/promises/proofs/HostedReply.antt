@@ -34,7 +34,7 @@ use Rattle.promises.specs.HandedReply.{Shown, handed_out, in_hand}
 use Rattle.promises.specs.Numbers.{Table}
 use Rattle.promises.specs.Cells.{reply_in_hand}
 use Rattle.promises.proofs.HandingReply.{in_hand_lem}
-use Rattle.promises.specs.Called.{ReadReply, ReadReplyStrict, HostRead, answering_host_reply, reply_host, reply_host_strict, reply_read_lem, reply_read_strict}
+use Rattle.promises.specs.Called.{ReadReply, ReadReplyStrict, HostRead, answering_host_reply, reply_host, reply_host_strict, reply_read, reply_read_strict}
 use Rattle.promises.proofs.Steady.{Faithful}
 use Rattle.promises.proofs.Hosted.{Hosted, granted}
 use Rattle.promises.proofs.HostedRequest.{flag_back, table_barred}
@@ -126,7 +126,7 @@ reads_hosted C P of met = record {
   refuses = λ c y w. reply_refuses (met c) y w;
 }
 
-pub reply_hosted : Faithful reading shows reply_read_lem in_hand
+pub reply_hosted : Faithful reading shows reply_read in_hand
 reply_hosted = reads_hosted ReadReply Usual reply_host (λ c. c.met)
 
 pub reply_hosted_strict : Faithful reading shows reply_read_strict in_hand

@@ -30,7 +30,7 @@ use Rattle.promises.specs.Handed.{Shown, handed_out, in_hand}
 use Rattle.promises.specs.Numbers.{Table}
 use Rattle.promises.specs.Cells.{request_in_hand}
 use Rattle.promises.proofs.Handing.{in_hand_lem}
-use Rattle.promises.specs.Called.{ReadRequest, ReadRequestStrict, HostRead, answering_host, request_host, request_host_strict, request_read_lem, request_read_strict}
+use Rattle.promises.specs.Called.{ReadRequest, ReadRequestStrict, HostRead, answering_host, request_host, request_host_strict, request_read, request_read_strict}
 use Rattle.promises.proofs.Steady.{Faithful}
 use Rattle.promises.proofs.Hosted.{Hosted, granted}
 
@@ -111,7 +111,7 @@ reads_hosted C P of met = record {
   refuses = λ c y w. request_refuses (met c) y w;
 }
 
-pub request_hosted : Faithful reading shows request_read_lem in_hand
+pub request_hosted : Faithful reading shows request_read in_hand
 request_hosted = reads_hosted ReadRequest Usual request_host (λ c. c.met)
 
 pub request_hosted_strict : Faithful reading shows request_read_strict in_hand

@@ -127,9 +127,9 @@ module _ (m t : List ℕ) where
   unfolding requests.request
   request_shown u q e = map_tail q (request_order.accepted_inside u.profile m u.limit u.terms.room q (sym (request_order.room_alone m u) ∙ e))
 
-  request_told_lem : (u : Under) → requests.told_by (m ++ t) (read_by requests.reader requests.judging m u) ≡ requests.told_by m (read_by requests.reader requests.judging m u)
+  request_told : (u : Under) → requests.told_by (m ++ t) (read_by requests.reader requests.judging m u) ≡ requests.told_by m (read_by requests.reader requests.judging m u)
   unfolding requests.request
-  request_told_lem u = go (read_by requests.reader requests.judging m u) refl
+  request_told u = go (read_by requests.reader requests.judging m u) refl
     where
       go : (x : judging.Answer requests.Form) → read_by requests.reader requests.judging m u ≡ x → requests.told_by (m ++ t) x ≡ requests.told_by m x
       go (judging.refused r) e = refl
@@ -149,7 +149,7 @@ request_local = record {
   rules = requests.rules;
   table = request_reader.table_reader_lem;
   decides = λ u l m t i. request_tail m t u.terms.room l i;
-  tells = λ m t u. request_told_lem m t u;
+  tells = λ m t u. request_told m t u;
   shows = λ m t u q e. request_shown m t u q e;
   ends = λ P e z met. zero_halts requests.act requests.once request_goes P e z met;
   refuses = λ m m' r. refl;
@@ -188,9 +188,9 @@ module _ (m t : List ℕ) where
   unfolding replies.reply_of
   reply_shown u q e = reply_map_tail q (reply_order.accepted_inside u.profile m u.limit u.terms q e)
 
-  reply_told_lem : (u : Under) → replies.told_by (m ++ t) (read_by replies.reader replies.judging m u) ≡ replies.told_by m (read_by replies.reader replies.judging m u)
+  reply_told : (u : Under) → replies.told_by (m ++ t) (read_by replies.reader replies.judging m u) ≡ replies.told_by m (read_by replies.reader replies.judging m u)
   unfolding replies.reply_of
-  reply_told_lem u = go (read_by replies.reader replies.judging m u) refl
+  reply_told u = go (read_by replies.reader replies.judging m u) refl
     where
       go : (x : judging.Answer replies.Form) → read_by replies.reader replies.judging m u ≡ x → replies.told_by (m ++ t) x ≡ replies.told_by m x
       go (judging.refused r) e = refl
@@ -214,7 +214,7 @@ reply_local = record {
   rules = replies.rules;
   table = reply_reader.table_reader_lem;
   decides = λ u l m t i. reply_tail m t u.terms l i;
-  tells = λ m t u. reply_told_lem m t u;
+  tells = λ m t u. reply_told m t u;
   shows = λ m t u q e. reply_shown m t u q e;
   ends = λ P e z met. zero_halts replies.act replies.once reply_goes P e z met;
   refuses = λ m m' r. refl;

@@ -19,8 +19,8 @@ use Rattle.reply.proofs.Offered.{told_cases}
 use Rattle.reply.proofs.Order.{reading, shows, Offered, accepted_offered}
 use Rattle.promises.specs.HandedReply.{Shown, in_hand}
 use Rattle.promises.specs.Demand3.{Reader}
-use Rattle.promises.specs.Called.{reply_parse, reply_read_lem, reply_read_strict}
-use Rattle.promises.specs.Offered.{protocol_in, algorithm_in, Answers, said, seventeen, Corrected, early, offered, no_protocol_lem, no_algorithm_lem}
+use Rattle.promises.specs.Called.{reply_parse, reply_read, reply_read_strict}
+use Rattle.promises.specs.Offered.{protocol_in, algorithm_in, Answers, said, seventeen, Corrected, early, offered, no_protocol, no_algorithm}
 use Rattle.promises.proofs.Steady.{Answering, of_whole}
 use Rattle.promises.proofs.HandingReply.{reply_faithful}
 use Rattle.promises.proofs.HostedReply.{reply_hosted, reply_hosted_strict}
@@ -49,8 +49,8 @@ pub reply_parse_answers : Answers reply_parse
 reply_parse_answers = answers_by reply_parse (of_whole reading shows reply_faithful)
 
 -- of calls of ntske_read_reply and ntske_read_reply_strict
-pub read_reply_answers : Answers reply_read_lem
-read_reply_answers = answers_by reply_read_lem (of_whole reading shows reply_hosted)
+pub read_reply_answers : Answers reply_read
+read_reply_answers = answers_by reply_read (of_whole reading shows reply_hosted)
 
 pub read_reply_strict_answers : Answers reply_read_strict
 read_reply_strict_answers = answers_by reply_read_strict (of_whole reading shows reply_hosted_strict)
@@ -78,4 +78,4 @@ module _ (P : Profile) (m : List ℕ) (n : ℕ) (x : Terms) (b : Beside) where
 
 pub reply_corrected : (P : Profile) (m : List ℕ) (n : ℕ) (x : Terms) → Corrected P m n x
 reply_corrected P m n x =
-    told_cases P m n x early offered (λ l p s. no_protocol_lem l p (at_the_end P m n x (protocol (named_by P 1 m n)) s)) (λ l p a s. no_algorithm_lem l p a (at_the_end P m n x (algorithm (named_by P 4 m n)) s))
+    told_cases P m n x early offered (λ l p s. no_protocol l p (at_the_end P m n x (protocol (named_by P 1 m n)) s)) (λ l p a s. no_algorithm l p a (at_the_end P m n x (algorithm (named_by P 4 m n)) s))

@@ -105,15 +105,15 @@ module _ (l : List ℕ) where
       let e = judge_refuses m a only p.says y h in
       (p.left ∙ ap (λ (o : judge.Answer requests.Form). over (cells (requests.names_of o)) table) e.0 ∙ over_none table, e.1)
 
-  reply_told_lem : (m : List ℕ) (a : judge.Answer replies.Form) (y : Refused) → replies.told_by m a ≡ replies.refused_with y → a ≡ judge.refused y
-  reply_told_lem m (judge.refused r) y e = let z : r ≡ y = cc in ap judge.refused z
-  reply_told_lem m (judge.accepted (replies.reply p a s t k c)) y e = let z : ◌≡◌ {A = ℕ} 0 1 = cc in absurd (omega arith)
+  reply_told : (m : List ℕ) (a : judge.Answer replies.Form) (y : Refused) → replies.told_by m a ≡ replies.refused_with y → a ≡ judge.refused y
+  reply_told m (judge.refused r) y e = let z : r ≡ y = cc in ap judge.refused z
+  reply_told m (judge.accepted (replies.reply p a s t k c)) y e = let z : ◌≡◌ {A = ℕ} 0 1 = cc in absurd (omega arith)
 
   -- the answer alone, as KeyExchangeResponse::judge gives it ..
   pub reply_answer_refuses : (m : List ℕ) (a : judge.Answer replies.Form) {r : reply_answers.Answer} → Only l (of_answer a) → replies.told_answer r ≡ replies.told_by m a
       → (y : Refusal) → r ≡ reply_answer.Refused y → (a ≡ judge.refused (told_refusal y)) × In (number_of y.error) l
   reply_answer_refuses m a only p y h =
-      let e = reply_told_lem m a (told_refusal y) (sym p ∙ ap replies.told_answer h) in
+      let e = reply_told m a (told_refusal y) (sym p ∙ ap replies.told_answer h) in
       (e, only (number_of y.error) (ap of_answer e))
 
   -- .. and with the table

@@ -13,7 +13,7 @@ use Rattle.request.proofs.Order.{room_alone, shows, reading}
 use Rattle.request.proofs.Messages.{messages, strict_messages}
 use Rattle.promises.specs.Handed.{Shown, in_hand}
 use Rattle.promises.specs.Demand3.{Reader}
-use Rattle.promises.specs.Called.{request_parse, request_read_lem, request_read_strict}
+use Rattle.promises.specs.Called.{request_parse, request_read, request_read_strict}
 use Rattle.promises.specs.Starred.{Answers, HoldsFor}
 use Rattle.promises.proofs.Steady.{Faithful}
 use Rattle.promises.proofs.Handing.{request_faithful}
@@ -44,8 +44,8 @@ pub parse_strict : HoldsFor request_parse strict_table
 parse_strict = holds_for request_parse request_faithful strict_table strict_messages
 
 -- of calls of ntske_read_request
-pub read_starred : HoldsFor request_read_lem table
-read_starred = holds_for request_read_lem request_hosted table messages
+pub read_starred : HoldsFor request_read table
+read_starred = holds_for request_read request_hosted table messages
 
 -- of calls of ntske_read_request_strict
 pub read_strict : HoldsFor request_read_strict strict_table

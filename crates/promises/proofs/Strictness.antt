@@ -170,9 +170,9 @@ ascii_set : (k : ℕ) (bit : Bool) (b : List ℕ) → k ≡ 6 → allows (asks_o
 unfolding asks_of allows
 ascii_set k bit b z a = rw z at a
 
-body_size_lem : (e : List ℕ) → Whole e → length (there e) ≡ size e
+body_size : (e : List ℕ) → Whole e → length (there e) ≡ size e
 unfolding there
-body_size_lem e w = length-take-le (size e) (drop 4 e) (omega (arith, w, length-drop 4 e))
+body_size e w = length-take-le (size e) (drop 4 e) (omega (arith, w, length-drop 4 e))
 
 alone_long : (R : Reader) (s : List ℕ) (next : ℕ) → R.final ≡ true → follows R s next ≡ false → length s ≤ next
 alone_long R s next f h = ltb-false next (length s) (sym (ap (λ (t : Bool). t && ltb next (length s)) f) ∙ h)
@@ -520,7 +520,7 @@ module _ (f : ℕ → List ℕ → Act) (once : ℕ → Bool) (goes_on : (k : �
               bits = each_map (λ c a k. bit_set (kind c) (critical c) (there c) k a) p.front each;
               names = each_map (λ c a k. ascii_set (kind c) (critical c) (there c) k a) p.front each;
               end_bit = bit_set (kind p.last) (critical p.last) (there p.last) (omega (arith, p.ends.1)) end;
-              end_empty = p.ends.0 ∙ ap (λ (k : ℕ). 4 + k) (sym (body_size_lem p.last p.ends.0) ∙ empty_set (kind p.last) (critical p.last) (there p.last) p.ends.1 end);
+              end_empty = p.ends.0 ∙ ap (λ (k : ℕ). 4 + k) (sym (body_size p.last p.ends.0) ∙ empty_set (kind p.last) (critical p.last) (there p.last) p.ends.1 end);
               end_final = omega (arith, r.2, late, ap length cut, length-append (flat p.front) (p.last ++ tail), length-append p.last tail);
             }
 

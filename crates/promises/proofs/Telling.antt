@@ -45,15 +45,15 @@ of_count_lem : (a : Count) → of_given (counted a) ≡ of_count a
 of_count_lem (bytes n) = refl
 of_count_lem (refused k b) = refl
 
-of_request_lem : (m : List ℕ) (a : judge.Answer requests.Form) → of_given (request_given (requests.told_by m a)) ≡ of_answer a
-of_request_lem m (judge.refused r) = refl
-of_request_lem m (judge.accepted (requests.key_exchange p a d)) = refl
-of_request_lem m (judge.accepted (requests.fixed_key u x a p k)) = refl
-of_request_lem m (judge.accepted (requests.support u p a k)) = refl
+of_request : (m : List ℕ) (a : judge.Answer requests.Form) → of_given (request_given (requests.told_by m a)) ≡ of_answer a
+of_request m (judge.refused r) = refl
+of_request m (judge.accepted (requests.key_exchange p a d)) = refl
+of_request m (judge.accepted (requests.fixed_key u x a p k)) = refl
+of_request m (judge.accepted (requests.support u p a k)) = refl
 
-of_reply_lem : (m : List ℕ) (a : judge.Answer replies.Form) → of_given (reply_given (replies.told_by m a)) ≡ of_answer a
-of_reply_lem m (judge.refused r) = refl
-of_reply_lem m (judge.accepted (replies.reply p a s t k c)) = refl
+of_reply : (m : List ℕ) (a : judge.Answer replies.Form) → of_given (reply_given (replies.told_by m a)) ≡ of_answer a
+of_reply m (judge.refused r) = refl
+of_reply m (judge.accepted (replies.reply p a s t k c)) = refl
 
 of_record : (t : Told) → of_given (record_given t) ≡ of_read t
 of_record (read x bit next) = refl
@@ -83,10 +83,10 @@ reply_table Usual = omega arith
 reply_table Strict = omega arith
 
 pub request_tells : (P : Profile) (m : List ℕ) (n room : ℕ) → Tells (request_numbers P) (request_given (requests.told_by m (request P m n room)))
-request_tells P m n room = tells (request_table P) (of_request_lem m (request P m n room)) ((request_exactly P).only (record { message = m; limit = n; room = room }))
+request_tells P m n room = tells (request_table P) (of_request m (request P m n room)) ((request_exactly P).only (record { message = m; limit = n; room = room }))
 
 pub decide_tells : (f : Found) (m : List ℕ) (room : ℕ) → Tells decide_numbers (request_given (requests.told_by m (requests.decided f m room)))
-decide_tells f m room = tells (omega arith) (of_request_lem m (requests.decided f m room)) (decide_exactly.only (record { found = f; message = m; room = room }))
+decide_tells f m room = tells (omega arith) (of_request m (requests.decided f m room)) (decide_exactly.only (record { found = f; message = m; room = room }))
 
 -- where the cells of a request tell a refusal, it is what is answered
 pub request_given_lem : (m : List ℕ) (a : judge.Answer requests.Form) (y : Refused) → request_given (requests.told_by m a) ≡ refuses y → a ≡ judge.refused y
@@ -96,7 +96,7 @@ request_given_lem m (judge.accepted (requests.fixed_key u x a p k)) y e = let z 
 request_given_lem m (judge.accepted (requests.support u p a k)) y e = let z : ◌≡◌ {A = ℕ} 0 1 = cc in absurd (omega arith)
 
 pub reply_tells : (P : Profile) (m : List ℕ) (n : ℕ) (x : Terms) → Tells (reply_numbers P) (reply_given (replies.told_by m (reply_of P m n x)))
-reply_tells P m n x = tells (reply_table P) (of_reply_lem m (reply_of P m n x)) ((reply_exactly P).only (record { message = m; limit = n; terms = x }))
+reply_tells P m n x = tells (reply_table P) (of_reply m (reply_of P m n x)) ((reply_exactly P).only (record { message = m; limit = n; terms = x }))
 
 pub record_tells : (m : List ℕ) (at : ℕ) → Tells record_numbers (record_given (read_at m at))
 record_tells m at = tells (omega arith) (of_record (read_at m at)) (record_exactly.only (m, at))

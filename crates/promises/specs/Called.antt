@@ -203,14 +203,14 @@ reply_host_strict c = record {
   after = c.e.1.1.1.1.1.0.now;
 }
 
-abbrev pub request_read_lem : Reader requests.Shown
-request_read_lem = answering_host ReadRequest Usual request_host
+abbrev pub request_read : Reader requests.Shown
+request_read = answering_host ReadRequest Usual request_host
 
 abbrev pub request_read_strict : Reader requests.Shown
 request_read_strict = answering_host ReadRequestStrict Strict request_host_strict
 
-abbrev pub reply_read_lem : Reader replies.Shown
-reply_read_lem = answering_host_reply ReadReply Usual reply_host
+abbrev pub reply_read : Reader replies.Shown
+reply_read = answering_host_reply ReadReply Usual reply_host
 
 abbrev pub reply_read_strict : Reader replies.Shown
 reply_read_strict = answering_host_reply ReadReplyStrict Strict reply_host_strict

@@ -1,5 +1,5 @@
 -- The functions that feed a read, as their callers see them (Pieces.antt): calls, each with its answer and what the function's own contract says of it, as the prover reads
--- it from the source; of hand_over, whose proof is by hand, as pieces/proofs/InPlace.antt says it, with a proof that this is the contract.
+-- it from the source; of hand_over, as pieces/proofs/InPlace.antt says it, with a proof that this is the contract.
 use Rattle.std.specs.Prelude.{ℕ, ◌≡◌, List, Bool}
 use Rattle.nts.specs.Refusal.{told_refusal}
 use Rattle.nts.specs.declared.Refusal.{Refusal}

@@ -42,6 +42,6 @@ pub data Corrected (P : Profile) (m : List ℕ) (n : ℕ) (x : Terms) : Type 0 w
   -- where both numbers that the reply names were offered, the answer is as it was
   offered : x.protocols (named_by P 1 m n) ≡ true → x.algorithms (named_by P 4 m n) ≡ true → said P m n x ≡ before P m n x → Corrected P m n x
   -- where it was 15, 7 or a reply: 17 with the protocol that was not offered; or that was, and 17 with the algorithm that was not
-  no_protocol_lem : Late (before P m n x) → x.protocols (named_by P 1 m n) ≡ false → said P m n x ≡ seventeen P m n (protocol (named_by P 1 m n)) → Corrected P m n x
-  no_algorithm_lem : Late (before P m n x) → x.protocols (named_by P 1 m n) ≡ true → x.algorithms (named_by P 4 m n) ≡ false
+  no_protocol : Late (before P m n x) → x.protocols (named_by P 1 m n) ≡ false → said P m n x ≡ seventeen P m n (protocol (named_by P 1 m n)) → Corrected P m n x
+  no_algorithm : Late (before P m n x) → x.protocols (named_by P 1 m n) ≡ true → x.algorithms (named_by P 4 m n) ≡ false
       → said P m n x ≡ seventeen P m n (algorithm (named_by P 4 m n)) → Corrected P m n x

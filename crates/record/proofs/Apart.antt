@@ -104,18 +104,18 @@ looked_apart (looked.Refused r) (looked.Refused s) e =
 
 -- ---- an entry of a list
 
-protocol_from_lem : entry.Entry → ProtocolAt
-protocol_from_lem entry.outside = protocol_at.Nothing
-protocol_from_lem (entry.number n) = protocol_at.Protocol (record { 0 = n })
-protocol_from_lem (entry.pair n k) = protocol_at.Nothing
+protocol_from : entry.Entry → ProtocolAt
+protocol_from entry.outside = protocol_at.Nothing
+protocol_from (entry.number n) = protocol_at.Protocol (record { 0 = n })
+protocol_from (entry.pair n k) = protocol_at.Nothing
 
-protocol_back : (x : ProtocolAt) → protocol_from_lem (told_protocol x) ≡ x
-unfolding protocol_from_lem
+protocol_back : (x : ProtocolAt) → protocol_from (told_protocol x) ≡ x
+unfolding protocol_from
 protocol_back protocol_at.Nothing = refl
 protocol_back (protocol_at.Protocol p) = refl
 
 pub protocol_apart : (x y : ProtocolAt) → told_protocol x ≡ told_protocol y → x ≡ y
-protocol_apart = apart told_protocol protocol_from_lem protocol_back
+protocol_apart = apart told_protocol protocol_from protocol_back
 
 algorithm_from : entry.Entry → AlgorithmAt
 algorithm_from entry.outside = algorithm_at.Nothing

@@ -53,9 +53,9 @@ first_none f g h = go (eqb f 0) refl h
     go true e z = z
     go false e z = absurd (eqb-false f 0 e z)
 
-name_there_lem : (n : ℕ) (b : List ℕ) → not_name n b ≡ 0 → n ≤ length b
+name_there : (n : ℕ) (b : List ℕ) → not_name n b ≡ 0 → n ≤ length b
 unfolding not_name
-name_there_lem n b h = short_there n (length b) (first_none (not_utf8 b) (short n (length b)) h)
+name_there n b h = short_there n (length b) (first_none (not_utf8 b) (short n (length b)) h)
 
 pub body_there : (x : Shape) (n : ℕ) (b : List ℕ) → fault_of x n b ≡ 0 → n ≤ length b
 unfolding fault_of
@@ -63,7 +63,7 @@ body_there Skipped n b h = short_there n (length b) h
 body_there Numbers n b h = uneven_there 2 n (length b) h
 body_there Number n b h = number_there n (length b) h
 body_there Bytes n b h = short_there n (length b) h
-body_there Name n b h = name_there_lem n b h
+body_there Name n b h = name_there n b h
 body_there Pairs n b h = uneven_there 4 n (length b) h
 body_there Halves n b h = halves_there n (length b) h
 body_there Unknown n b h = short_there n (length b) h

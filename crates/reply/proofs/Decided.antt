@@ -16,7 +16,7 @@ use Rattle.walk.specs.Rules.{is_noted}
 use Rattle.walk.specs.declared.Seen.{Seen}
 use Rattle.walk.specs.Found.{entry_in, first_in, told_in}
 use Rattle.walk.specs.Code.{Fits}
-use Rattle.walk.proofs.Like.{Like, like_first, like_if, like_some, told_first_lem, told_length}
+use Rattle.walk.proofs.Like.{Like, like_first, like_if, like_some, told_first, told_length}
 use Rattle.places.proofs.Entries.{body_length, part_body}
 use Rattle.reply.specs.Reply.{sent, not_sent, map_sent, first_sent, Form, rules, decide, Told, refused_with, told_by}
 use Rattle.reply.specs.Code.{number_in, sent_in, accepted_in, cookies_for}
@@ -77,7 +77,7 @@ module _ (m : List ℕ) (at : ℕ) (x : Terms) where
 
     first_told : (k : ℕ) (v : Verdict Form Sighting) (f : Sighting → Verdict Form Sighting) (y z : Told) → told v ≡ y → told (f (first_in c k)) ≡ z
         → told (with_first (told_in c k) v f) ≡ cond (eqb (entry_in c k).count 0) y z
-    first_told k v f y z p q = ap told (told_first_lem c k v f) ∙ if_told (eqb (entry_in c k).count 0) v (f (first_in c k)) y z p q
+    first_told k v f y z p q = ap told (told_first c k v f) ∙ if_told (eqb (entry_in c k).count 0) v (f (first_in c k)) y z p q
 
     -- a body's test is its length's
     body_told : (k : ℕ) → (first_in c k).start + (first_in c k).len ≤ length m → (v w : Verdict Form Sighting) (y z : Told) → told v ≡ y → told w ≡ z
@@ -90,7 +90,7 @@ module _ (m : List ℕ) (at : ℕ) (x : Terms) where
 
     sent_is : {B : Type 0} (f : Sighting → B) (k : ℕ) (b : B) → f (first_in c k) ≡ b → map_sent f (first_sent (told_in c k)) ≡ sent_in (entry_in c k) b
     unfolding sent_in
-    sent_is f k b e = sent_first f (told_in c k) ∙ told_first_lem c k not_sent (λ x. sent (f x)) ∙ ap (λ (v : _). cond (eqb (entry_in c k).count 0) not_sent (sent v)) e
+    sent_is f k b e = sent_first f (told_in c k) ∙ told_first c k not_sent (λ x. sent (f x)) ∙ ap (λ (v : _). cond (eqb (entry_in c k).count 0) not_sent (sent v)) e
 
     -- the code's tests, over what was found of kinds 1 and 4
     pub decided_is : (p a : Seen) → p ≡ entry_in c 1 → a ≡ entry_in c 4

@@ -54,7 +54,7 @@ rules =
     ∷ rule.noted  -- 5 cookie
     ∷ rule.once  -- 6 server
     ∷ rule.once  -- 7 port
-    ∷ rule.noted  -- 8 keep_alive
+    ∷ rule.noted  -- 8 keep-alive
     ∷ rule.refused  -- 9 supported protocols
     ∷ rule.refused  -- 10 supported algorithms
     ∷ rule.refused  -- 11, which is unknown and not asked

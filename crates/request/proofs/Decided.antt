@@ -23,7 +23,7 @@ use Rattle.walk.specs.Rules.{is_noted}
 use Rattle.walk.specs.Found.{entry_in, first_in, told_in}
 use Rattle.walk.specs.Code.{Fits}
 use Rattle.walk.specs.declared.Seen.{Seen}
-use Rattle.walk.proofs.Like.{Like, like_some, like_first, like_if, told_length, told_first_lem, told_some, there_none, there_some}
+use Rattle.walk.proofs.Like.{Like, like_some, like_first, like_if, told_length, told_first, told_some, there_none, there_some}
 use Rattle.walk.proofs.Verdicts.{taken, left}
 use Rattle.places.proofs.Entries.{body_length}
 use Rattle.request.specs.Request.{rules, Form, key_exchange, fixed_key, support, keyed, fixed_by, support_by, keys_by, exchange_by, decide, Told, key_exchange_is, fixed_key_is, support_is, refused_with, told_by}
@@ -78,14 +78,14 @@ module _ (m : List ℕ) (at room : ℕ) (l l' : ℕ → List Sighting) (h : (k :
 
 module _ (c : List ℕ) (k : ℕ) {A : Type 0} (z : A) (f : Sighting → A) where
   first_none : some (told_in c k) ≡ false → with_first (told_in c k) z f ≡ z
-  first_none e = told_first_lem c k z f ∙ go (eqb (entry_in c k).count 0) (sym (told_some c k) ∙ e)
+  first_none e = told_first c k z f ∙ go (eqb (entry_in c k).count 0) (sym (told_some c k) ∙ e)
     where
       go : (b : Bool) → cond b false true ≡ false → cond b z (f (first_in c k)) ≡ z
       go true h = refl
       go false h = let o : ◌≡◌ {A = ℕ} 0 1 = cc in absurd (omega arith)
 
   first_there : some (told_in c k) ≡ true → with_first (told_in c k) z f ≡ f (first_in c k)
-  first_there e = told_first_lem c k z f ∙ go (eqb (entry_in c k).count 0) (sym (told_some c k) ∙ e)
+  first_there e = told_first c k z f ∙ go (eqb (entry_in c k).count 0) (sym (told_some c k) ∙ e)
     where
       go : (b : Bool) → cond b false true ≡ true → cond b z (f (first_in c k)) ≡ f (first_in c k)
       go true h = let o : ◌≡◌ {A = ℕ} 0 1 = cc in absurd (omega arith)
@@ -163,7 +163,7 @@ module _ (c : List ℕ) (at : ℕ) (m : List ℕ) (fit : Fits rules (length m) c
       ≡ cond (some (told_in c 14)) (cond (is_one (entry_in c 1)) (cond (is_one (entry_in c 4)) (told m at (fixed_in (body_in m) c)) (refused_at 4 nothing at)) (refused_at 4 nothing at)) (refused_at 4 nothing at)
   unfolding is_one fixed_by is_noted
   keys_by_lem =
-      rw (told_first_lem c 14, told_first_lem c 1, told_first_lem c 4, told_some c 14, long 1 (omega arith) refl refl, long 4 (omega arith) refl refl)
+      rw (told_first c 14, told_first c 1, told_first c 4, told_some c 14, long 1 (omega arith) refl refl, long 4 (omega arith) refl refl)
       (go (eqb (entry_in c 14).count 0) (eqb (entry_in c 1).count 0) (eqb (entry_in c 4).count 0) (eqb (entry_in c 1).len 2) (eqb (entry_in c 4).len 2) _)
     where
       go : (u p a one two : Bool) (v : Verdict Form Sighting)
@@ -193,9 +193,9 @@ module _ (c : List ℕ) (at : ℕ) (m : List ℕ) (fit : Fits rules (length m) c
     unfolding keyed
     wrong_keys k e h = sym (keyed_by ∙ rw (e, ne_eqb ((entry_in c 12).len / 2) k.keysize h))
 
-    pub no_algorithm_lem : d ≡ Unknown → refused_at 5 (code a) at ≡ told m at (fixed_in (body_in m) c)
+    pub no_algorithm : d ≡ Unknown → refused_at 5 (code a) at ≡ told m at (fixed_in (body_in m) c)
     unfolding keyed
-    no_algorithm_lem e = sym (keyed_by ∙ rw e)
+    no_algorithm e = sym (keyed_by ∙ rw e)
 
 -- a list of one entry has two bytes
 pub one_entry : (x : Seen) → is_one x ≡ true → x.len ≡ 2

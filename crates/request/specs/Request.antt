@@ -45,7 +45,7 @@ rules =
     ∷ rule.refused  -- 5 cookie
     ∷ rule.passed  -- 6 server
     ∷ rule.passed  -- 7 port
-    ∷ rule.noted  -- 8 keep_alive
+    ∷ rule.noted  -- 8 keep-alive
     ∷ rule.once  -- 9 supported protocols
     ∷ rule.once  -- 10 supported algorithms
     ∷ rule.refused  -- 11, which is unknown and not asked

@@ -28,9 +28,9 @@ module _ (c : List ℕ) (k : ℕ) where
       go (suc n) = ap suc (go n)
 
   -- by whether any was met
-  pub told_first_lem : {A : Type 0} (z : A) (f : Sighting → A) → with_first (told_in c k) z f ≡ cond (eqb (entry_in c k).count 0) z (f (first_in c k))
+  pub told_first : {A : Type 0} (z : A) (f : Sighting → A) → with_first (told_in c k) z f ≡ cond (eqb (entry_in c k).count 0) z (f (first_in c k))
   unfolding told_in
-  told_first_lem z f = go (entry_in c k).count
+  told_first z f = go (entry_in c k).count
     where
       go : (n : ℕ) → with_first (copies n (first_in c k)) z f ≡ cond (eqb n 0) z (f (first_in c k))
       go zero = refl
@@ -92,14 +92,14 @@ entry_like c k st e = go (of_kind k st) refl e
     go : (l : List Sighting) → of_kind k st ≡ l → entry_in c k ≡ seen_of l → Like (told_in c k) l
     go [] q s = record {
       long = told_length c k ∙ ap (λ (v : Seen). v.count) s;
-      first = λ z f. told_first_lem c k z f ∙ ap (λ (v : Seen). cond (eqb v.count 0) z (f (record { of = k; start = v.start; len = v.len }))) s;
+      first = λ z f. told_first c k z f ∙ ap (λ (v : Seen). cond (eqb v.count 0) z (f (record { of = k; start = v.start; len = v.len }))) s;
     }
     go (x ∷ l) q s =
         let o : x.of ≡ k = kind_first k st x l q in
         record {
           long = told_length c k ∙ ap (λ (v : Seen). v.count) s;
           first = λ z f.
-              told_first_lem c k z f
+              told_first c k z f
               ∙ ap (λ (v : Seen). cond (eqb v.count 0) z (f (record { of = k; start = v.start; len = v.len }))) s
               ∙ rw (ne_eqb (suc (length l)) 0 (λ n. omega arith))
               (ap (λ (j : ℕ). f (record { of = j; start = x.start; len = x.len })) (sym o));

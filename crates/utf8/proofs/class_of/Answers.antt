@@ -5,9 +5,6 @@ use Rattle.utf8.specs.Class.{class_of, by_ones, ones}
 use Rattle.utf8.proofs.Classes.{has}
 use Rattle.utf8.proofs.class_of.Goals as goal
 
--- LEFT array-read-result : tie.Need-array-read-result
--- LEFT array-read-result c = search rules
-
 pub returns : goal.returns
 unfolding class_of by_ones ones count_leading_zeros
 returns c = search (has, rules)
