@@ -1,6 +1,6 @@
 //! Holds the declarations of the library's functions against their source: signatures ROOT ARCHIVE
 //!
-//! Reads each `#[unsafe(no_mangle)] pub extern "C" fn` of the crate ntske, puts its arguments into C's and into Rust's form, and compares them, by
+//! Reads each `#[unsafe(no_mangle)] pub extern "C" fn` of the static libraries, puts its arguments into C's and into Rust's form, and compares them, by
 //! name, type and order, with include/ntske.h and with bindings/rust/src/raw.rs; compares the functions that `nm` shows in the archive, which
 //! may need nothing from outside but what a compiler itself calls to move memory; and asks that tests/abi/calls.c calls each, and each inline
 //! function of the header. An array that is lent is a struct in C: it has as many cells as the array, each of its type, and the header asserts where
@@ -10,8 +10,8 @@
 use std::collections::BTreeMap;
 use std::process::{Command, ExitCode};
 
-/// The modules of the crate ntske, which has the calls of a host.
-const MODULES: [&str; 7] = ["reads", "decides", "feeds", "hands", "plans", "writes", "shows"];
+/// The crates that have calls of a host, of which each has a static library beside it.
+const CRATES: [&str; 7] = ["reading", "deciding", "feeding", "handing", "planning", "writing", "showing"];
 
 /// The struct in C of a lent array: the function (of any where there is none), the argument, what a cell is, how many there are, and the struct. The
 /// last one is no argument's: a finding has an array of them.
@@ -55,7 +55,7 @@ fn main() -> ExitCode {
     };
     let read = |path: &str| std::fs::read_to_string(format!("{root}/{path}")).unwrap_or_else(|e| panic!("{path}: {e}"));
 
-    let source: String = MODULES.iter().map(|name| read(&format!("crates/ntske/src/{name}.rt"))).collect();
+    let source: String = CRATES.iter().map(|name| read(&format!("crates/{name}_c/src/lib.rt"))).collect();
     let exported = exported(&source);
     let header_text = read("include/ntske.h");
     let header = Header::of(&header_text);
