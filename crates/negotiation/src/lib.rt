@@ -106,6 +106,7 @@ fn first_common(list: &[u8], own: &[u16]) -> First
 }
 
 // Whether a list of cells holds a number.
+#[tactic(auto, using(crate::proofs::Searching::seeking_found, crate::proofs::Searching::seeking_on, crate::proofs::Searching::seeking_none, crate::proofs::Searching::seeking_start))]
 pub fn has(list: &[u16], n: u16) -> bool
     ensures { result ≡ holds list.now n }
 {

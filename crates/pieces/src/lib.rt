@@ -750,6 +750,7 @@ fn scan(profile: Profile, rules: &[u8; 15], bytes: &[u8], met: u16) -> Scanned
 }
 
 // How many bytes the record at a place takes where it stands whole; otherwise 0.
+#[tactic(auto, using(crate::proofs::Scanning::sized_short, crate::proofs::Scanning::sized_cut, crate::proofs::Scanning::sized_whole))]
 fn whole_size(bytes: &[u8], at: usize) -> usize
     requires { at ≤ length bytes.now }
     ensures { result ≡ cond (whole (drop at bytes.now)) (4 + records.size (drop at bytes.now)) 0 }

@@ -159,6 +159,7 @@ fn is_whole(class: u8, size: usize, s: &[u8], at: usize) -> bool
 }
 
 // Whether all of the bytes are ASCII, told by one pass without a way out of it, which takes many bytes at a time.
+#[tactic(auto, using(crate::proofs::Ascii::ascii_above, crate::proofs::Ascii::ascii_kept, crate::proofs::Ascii::ascii_whole), unfolding(crate::specs::Ascii::is_ascii))]
 pub fn is_ascii(s: &[u8]) -> bool
     ensures { result ≡ is_ascii s.now }
 {
