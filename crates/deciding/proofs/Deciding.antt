@@ -8,12 +8,12 @@ use Rattle.nts.specs.Refusal.{nothing}
 use Rattle.walk.specs.Finding.{Found}
 use Rattle.places.specs.Places.{room_of}
 use Rattle.request.specs.Request.{told_by, told_answer, table_after, decided, Decides}
-use Rattle.request.specs.declared.Answer.{Answer}
 use Rattle.cells.specs.Cells.{cell, word, unplaced, Given, Gives}
 use Rattle.cells.proofs.Lent.{given}
 use Rattle.reading.specs.Read.{request_given}
 use Rattle.deciding.specs.Given.{found_in, DecidesRequest}
 use Rattle.deciding.proofs.Refusing.{decided_none}
+use Rattle.request.specs.declared.Answer.{Answer}
 
 -- a reason above 4 is refused with 9, and nothing changes
 pub decides_none : (c m t lent : List ℕ) {r : ℕ} → 4 < cell c 2 → r ≡ word (unplaced 9 nothing) → DecidesRequest c m t lent r t lent

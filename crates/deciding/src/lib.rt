@@ -17,6 +17,7 @@ use request::{Answer, Request};
 use walk::{Finding, Stop};
 
 // Walks over a message as if it were cut after `limit` bytes until its end record or the one refused by 1 to 4, and tells what it found. Refuses nothing.
+#[tactic(auto, using(crate::proofs::Refusing::finding_within))]
 pub fn ntske_walk_request(message: &[u8], limit: u16, finding: &mut [u16; 48]) -> u64
     ensures { Gives (cells (finding_cells (found_by (reader Profile.Usual) message.now limit))) finding.old result finding.new }
 {
@@ -37,8 +38,7 @@ pub fn ntske_decide_request(
     if finding[2] > REASONS {
         return cells::refused(NtsError::InvalidValue);
     }
-    let decided = Request::decide(finding_in(*finding), message, table);
-    match decided {
+    match Request::decide(finding_in(*finding), message, table) {
         Answer::Accepted(x) => {
             *answer = reading::request_cells(x);
             0
@@ -52,8 +52,7 @@ fn refused(x: Refusal) -> u64
     requires { x.place < 65536 }
     ensures { result ≡ word (told_refusal x) }
 {
-    let error = x.error;
-    cells::refused_at(error, x.place as u32)
+    cells::refused_at(x.error, x.place as u32)
 }
 
 // ---- a finding as cells
@@ -69,18 +68,11 @@ fn finding_cells(finding: Finding) -> [u16; 48]
     requires { finding.place < 65536 }
     ensures { result ≡ finding_cells (told_finding finding) }
 {
-    let stop = finding.stop;
-    let found = finding.cells;
     let mut cells = [0u16; 48];
     cells[0] = finding.limit;
     cells[1] = finding.place as u16;
-    cells[2] = reason_of(stop);
-    let mut i: usize = 0;
-    while i < 45 {
-        let to = i + FOUND;
-        cells[to] = found[i];
-        i += 1;
-    }
+    cells[2] = reason_of(finding.stop);
+    cells[FOUND..].copy_from_slice(&finding.cells);
     cells
 }
 
@@ -100,18 +92,12 @@ fn finding_in(cells: [u16; 48]) -> Finding
     ensures { told_finding result ≡ found_in cells }
 {
     let mut found = [0u16; 45];
-    let mut i: usize = 0;
-    while i < 45 {
-        let from = i + FOUND;
-        found[i] = cells[from];
-        i += 1;
-    }
-    let stop = stop_in(cells[2]);
+    found.copy_from_slice(&cells[FOUND..]);
     Finding {
         limit: cells[0],
         cells: found,
         place: cells[1] as usize,
-        stop,
+        stop: stop_in(cells[2]),
     }
 }
 

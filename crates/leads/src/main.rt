@@ -3,40 +3,40 @@
 #![tactic(auto)]
 
 use std::io;
+use utf8::Class;
 
 const DIGITS: [u8; 16] = *b"0123456789ABCDEF";
 
-// The class that the rule gives a byte: by its count, and where the byte after it is narrowed, the byte's own. The number of any other class is how many bytes its
-// sequences have.
-fn by_rule(a: u8) -> usize {
-    let size = utf8::lead_size(a);
-    match size {
+// The class that the rule gives a byte: by its count, and where the byte after it is narrowed, the byte's own.
+fn by_rule(a: u8) -> Class {
+    match utf8::lead_size(a) {
+        1 => Class::As,
+        2 => Class::L2,
         3 => match a {
-            0xE0 => utf8::E0 as usize,
-            0xED => utf8::ED as usize,
-            _ => size,
+            0xE0 => Class::E0,
+            0xED => Class::Ed,
+            _ => Class::L3,
         },
         4 => match a {
-            0xF0 => utf8::F0 as usize,
-            0xF4 => utf8::F4 as usize,
-            _ => size,
+            0xF0 => Class::F0,
+            0xF4 => Class::F4,
+            _ => Class::L4,
         },
-        _ => size,
+        _ => Class::No,
     }
 }
 
-fn print_class(rt: &impl Print, class: u8) -> io::Result<()> {
+fn print_class(rt: &impl Print, class: Class) -> io::Result<()> {
     match class {
-        utf8::NO => print(rt, b" NO"),
-        utf8::AS => print(rt, b" AS"),
-        utf8::L2 => print(rt, b" L2"),
-        utf8::L3 => print(rt, b" L3"),
-        utf8::L4 => print(rt, b" L4"),
-        utf8::E0 => print(rt, b" E0"),
-        utf8::ED => print(rt, b" ED"),
-        utf8::F0 => print(rt, b" F0"),
-        utf8::F4 => print(rt, b" F4"),
-        _ => print(rt, b" ??"),
+        Class::No => print(rt, b" NO"),
+        Class::As => print(rt, b" AS"),
+        Class::L2 => print(rt, b" L2"),
+        Class::L3 => print(rt, b" L3"),
+        Class::L4 => print(rt, b" L4"),
+        Class::E0 => print(rt, b" E0"),
+        Class::Ed => print(rt, b" ED"),
+        Class::F0 => print(rt, b" F0"),
+        Class::F4 => print(rt, b" F4"),
     }
 }
 
@@ -51,7 +51,7 @@ fn print_digit(rt: &impl Print, n: u8) -> io::Result<()> {
 
 fn print_entry(rt: &impl Print, a: u8) -> io::Result<()> {
     let class = utf8::class_of(a);
-    if class as usize == by_rule(a) {
+    if class == by_rule(a) {
         print_class(rt, class)
     } else {
         print(rt, b" !!")

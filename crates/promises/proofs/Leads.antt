@@ -10,24 +10,26 @@ use mathlib.Core.Logic.{◌↔◌}
 use mathlib.Core.List.{List}
 use Prim.Native.Nat.{ℕ, ◌<◌}
 use lib.ListN.{length, get_or}
-use Rattle.utf8.specs.Class.{AS, class_of, class_size, Table, Leads}
+use Rattle.utf8.specs.declared.Class.{Class}
+use Rattle.utf8.specs.declared.Class.TheVariants.{No, As}
+use Rattle.utf8.specs.Class.{class_of, class_size, Table, Leads}
 use Rattle.utf8.proofs.Classes.{leads, ascii_classes}
 use Rattle.utf8.proofs.class_of.Reads as class_of_call
 use Rattle.utf8.proofs.lead_size.Reads as lead_size
 use Rattle.utf8.proofs.is_ascii.Reads as is_ascii_call
 
-pub table_leads : (t : List ℕ) → Table t → (a : ℕ) → a < 256 → Leads a (get_or t a 0)
-table_leads t p a h = subst⁻¹ (λ (c : ℕ). Leads a c) (p.each a h) (leads a)
+pub table_leads : (t : List Class) → Table t → (a : ℕ) → a < 256 → Leads a (get_or t a No)
+table_leads t p a h = subst⁻¹ (λ (c : Class). Leads a c) (p.each a h) (leads a)
 
 pub class_of_rule : (κs : _) (a : _) (r : _) (e : _) → class_of_call.Learnt κs a r e → r ≡ class_of a.0
 class_of_rule κs a r e p = p
 
 pub class_of_leads : (κs : _) (a : _) (r : _) (e : _) → class_of_call.Learnt κs a r e → Leads a.0 r
-class_of_leads κs a r e p = subst⁻¹ (λ (c : ℕ). Leads a.0 c) p (leads a.0)
+class_of_leads κs a r e p = subst⁻¹ (λ (c : Class). Leads a.0 c) p (leads a.0)
 
 pub class_of_sized : (κs κs' : _) (a : _) (r n : _) (e e' : _) → class_of_call.Learnt κs a r e → lead_size.Learnt κs' a n e' → class_size r ≡ n
 class_of_sized κs κs' a r n e e' p q = (class_of_leads κs a r e p).size ∙ sym q
 
 pub is_ascii_classes : (κs : _) (a : _) (r : _) (e : _) → is_ascii_call.Learnt κs a r e
-    → (r ≡ true) ↔ ((k : ℕ) → k < length a.0.now → class_of (get_or a.0.now k 0) ≡ AS)
+    → (r ≡ true) ↔ ((k : ℕ) → k < length a.0.now → class_of (get_or a.0.now k 0) ≡ As)
 is_ascii_classes κs a r e p = (λ y. (ascii_classes a.0.now).0 (sym p ∙ y), λ f. p ∙ (ascii_classes a.0.now).1 f)

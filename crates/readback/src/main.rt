@@ -60,10 +60,8 @@ fn print_port(rt: &impl Print, port: Port) -> io::Result<()> {
 }
 
 fn print_cookies(rt: &impl Print, message: &[u8], table: &[u16], count: usize) -> io::Result<()> {
-    let mut i: usize = 0;
-    while i < count {
+    for i in 0..count {
         print(rt, b"cookie ", places::entry(message, table, i))?;
-        i += 1;
     }
     Ok(())
 }

@@ -1,13 +1,12 @@
 -- Laws of `is_ascii`: of a front that grows by a byte, and byte by byte.
 -- Assumes nothing.
 use mathlib.Core.Path.{◌≡◌, refl, sym, ap, ◌∙◌}
-use mathlib.Core.Bool.{Bool, true, false, ◌&&◌, and-true, and-false}
+use mathlib.Core.Bool.{Bool, true, false, ◌&&◌, and-true}
 use mathlib.Core.List.{List, [], ◌∷◌}
 use Prim.Native.Nat.{ℕ, zero, suc, ◌+◌, ◌<◌, ◌≤◌}
 use native.Mathlib.Omega.{arith}
-use borrow.Author.Tests.{leb-true, le-leb, lt-leb}
+use borrow.Author.Tests.{leb-true}
 use lib.ListN.{length, get_or, take}
-use lib.Seq.{take_all}
 use lib.Dec.{leb}
 use Rattle.utf8.specs.Ascii.{is_ascii}
 use Rattle.utf8.specs.Lead.{Ascii}
@@ -23,19 +22,11 @@ ascii_next (b ∷ s) (suc i) h = ap (λ (t : Bool). leb b 0x7F && t) (ascii_next
     go true = refl
     go false = refl
 
--- what a turn of a loop over the bytes knows: of those so far, whether all are ASCII
-module _ (s : List ℕ) (i : ℕ) (all : Bool) where
-  one_more_lem : i < length s → is_ascii (take (i + 1) s) ≡ (is_ascii (take i s) && leb (get_or s i 0) 0x7F)
-  one_more_lem h = let e : i + 1 ≡ suc i = omega arith in ap (λ (n : ℕ). is_ascii (take n s)) e ∙ ascii_next s i h
-
-  pub ascii_above : i < length s → 0x7F < get_or s i 0 → all ≡ false → all ≡ is_ascii (take (i + 1) s)
-  ascii_above h a e = e ∙ sym (one_more_lem h ∙ rw (lt-leb (get_or s i 0) 0x7F a, and-false))
-
-  pub ascii_kept : (before : Bool) → i < length s → get_or s i 0 ≤ 0x7F → all ≡ before → before ≡ is_ascii (take i s) → all ≡ is_ascii (take (i + 1) s)
-  ascii_kept before h a e q = e ∙ q ∙ sym (one_more_lem h ∙ rw (le-leb (get_or s i 0) 0x7F a, and-true))
-
-  pub ascii_whole : length s ≤ i → all ≡ is_ascii (take i s) → all ≡ is_ascii s
-  ascii_whole h e = e ∙ ap is_ascii (take_all i s h)
+-- a turn of a loop over the bytes
+pub ascii_more : (s : List ℕ) (i : ℕ) (all : Bool) → i < length s → all ≡ is_ascii (take i s) → (all && leb (get_or s i 0) 0x7F) ≡ is_ascii (take (i + 1) s)
+ascii_more s i all h e =
+    let z : i + 1 ≡ suc i = omega arith in
+    ap (λ (t : Bool). t && leb (get_or s i 0) 0x7F) e ∙ sym (ap (λ (n : ℕ). is_ascii (take n s)) z ∙ ascii_next s i h)
 
 each_below : (s : List ℕ) → is_ascii s ≡ true → (k : ℕ) → k < length s → get_or s k 0 ≤ 0x7F
 unfolding is_ascii

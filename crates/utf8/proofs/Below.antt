@@ -3,7 +3,7 @@
 use mathlib.Core.Path.{◌≡◌, refl, sym}
 use mathlib.Core.Bool.{Bool, true, false, cond, ◌&&◌, beq}
 use mathlib.Core.Logic.{⊎_elim}
-use Prim.Native.Nat.{ℕ, zero, suc, ◌<◌, ◌/◌}
+use Prim.Native.Nat.{ℕ, zero, suc, ◌<◌}
 use native.Mathlib.Nat.{not-suc-le-zero, le_of_suc-le-suc, eq-or-lt_of_le}
 use borrow.Author.Tests.{eqb-true}
 use lib.Dec.{eqb}
@@ -25,11 +25,6 @@ beq→eq true true e = refl
 beq→eq true false e = sym e
 beq→eq false true e = e
 beq→eq false false e = refl
-
--- a byte's top bits, as a shift reads them, are n where the other test passes
-pub same_shift : (d n : ℕ) (g : ℕ → Bool) → every 256 (λ k. beq (eqb (k / d) n) (g k)) ≡ true
-    → (k : ℕ) → k < 256 → eqb (k / d) n ≡ g k
-same_shift d n g t k h = beq→eq (eqb (k / d) n) (g k) (below 256 (λ k. beq (eqb (k / d) n) (g k)) t k h)
 
 -- two numbers agree at each byte where the test p passes
 pub same_where : (p : ℕ → Bool) (f g : ℕ → ℕ) → every 256 (λ k. cond (p k) (eqb (f k) (g k)) true) ≡ true

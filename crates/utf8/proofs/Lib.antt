@@ -1,5 +1,6 @@
 pub mod Tests
 pub mod Below
+pub mod Leading
 pub mod Rows
 pub mod Ascii
 pub mod Classes

@@ -10,7 +10,9 @@ use borrow.Author.Tests.{le-leb}
 use lib.ListN.{length, get_or, take, drop, length-drop, drop_of_length-le}
 use lib.Seq.{length-take-le, drop-cons, drop-drop, get_or-drop, get_or-take}
 use Rattle.utf8.specs.Utf8.{rows, fits, char_size, octets, well_formed}
+use Rattle.utf8.specs.Ascii.{is_ascii}
 use Rattle.utf8.specs.Lead.{size_at, Ascii, Passed}
+use Rattle.utf8.proofs.Ascii.{ascii_each}
 use Rattle.utf8.proofs.Rows.{same_size}
 use Rattle.utf8.proofs.Tests.{never, on, and_right}
 
@@ -94,3 +96,8 @@ passed_block {s} {at} {i} {start} {end} p l m h a =
     let q : start + j ≡ i + k = omega arith in
     let t : get_or (take (end - start) (drop start s)) j 0 ≡ get_or s (start + j) 0 = get_or-take (end - start) (drop start s) j 0 (omega arith) ∙ get_or-drop start s j 0 in
     subst (λ (n : ℕ). get_or s n 0 ≤ 0x7F) q (rw (← t) (a.each j (omega (arith, e))))))
+
+-- the same of a slice that was asked
+pub passed_ascii : {s : List ℕ} {at i start end : ℕ} {t : Bool} → Passed s at i → t ≡ is_ascii (take (end - start) (drop start s)) → t ≡ true → start ≤ i → i ≤ end
+    → end ≤ length s → Passed s at end
+passed_ascii p e y l m h = passed_block p l m h (ascii_each _ (sym e ∙ y))

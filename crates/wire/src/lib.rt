@@ -9,61 +9,49 @@ ghost use Rattle.wire.specs.Over.{over, bytes_of, Tried};
 pub fn byte_at(s: &[u8], at: usize) -> u8
     ensures { result ≡ byte_at s.now at }
 {
-    if at < s.len() { s[at] } else { 0 }
+    s.get(at).copied().unwrap_or(0)
 }
 
 // The two bytes from a place on as a number, the high one first; a byte past the end counts as 0.
+#[tactic(auto, using(crate::proofs::Bytes::number_past), unfolding(crate::specs::Bytes::number_at))]
 pub fn number_at(s: &[u8], at: usize) -> u16
     ensures { result ≡ number_at s.now at }
 {
     if at < s.len() {
-        return (byte_at(s, at) as u16) * 256 + byte_at(s, at + 1) as u16;
+        byte_at(s, at) as u16 * 256 + byte_at(s, at + 1) as u16
+    } else {
+        0
     }
-    0
 }
 
 // The `len` bytes from `start` on; none, at the front, where they are not all inside.
 pub fn part(s: &[u8], start: usize, len: usize) -> &[u8]
     ensures { PartOf s.entry start len result }
 {
-    if s.len() < start || s.len() - start < len {
-        return &s[0..0];
+    if start <= s.len() && len <= s.len() - start {
+        &s[start..start + len]
+    } else {
+        &s[0..0]
     }
-    let end = start + len;
-    &s[start..end]
 }
 
 // A number at the front of the output, the high byte first: 2 for the bytes written, or 0 and nothing written where there
 // is no room.
+#[tactic(auto, unfolding(crate::specs::Over::bytes_of))]
 pub fn put_number(x: u16, out: &mut [u8]) -> usize
     ensures { Tried 2 (bytes_of x) out.old result out.new }
 {
-    if out.len() < 2 {
-        return 0;
-    }
-    out[0] = (x / 256) as u8;
-    out[1] = (x % 256) as u8;
-    2
+    put_bytes(&x.to_be_bytes(), out)
 }
 
 // All of `src` at the front of the output: how many bytes that is, or 0 and nothing written where there is no room.
+#[tactic(auto, using(crate::proofs::Over::put_whole), unfolding(crate::specs::Over::over))]
 pub fn put_bytes(src: &[u8], out: &mut [u8]) -> usize
     ensures { Tried (length src.now) src.now out.old result out.new }
 {
     if out.len() < src.len() {
         return 0;
     }
-    copy_bytes(src, out);
+    out[..src.len()].copy_from_slice(src);
     src.len()
-}
-
-fn copy_bytes(src: &[u8], out: &mut [u8])
-    requires { length src.now ≤ length out.old }
-    ensures { out.new ≡ over src.now out.old }
-{
-    let mut i = 0;
-    while i < src.len() {
-        out[i] = src[i];
-        i += 1;
-    }
 }

@@ -13,15 +13,15 @@ returns-then-finding-gt-REASONS c = decides_none c.args.finding.now _ _ _ c.if-f
 
 pub refused-requires-in-Refused : goal.refused-requires-in-Refused
 refused-requires-in-Refused c =
-    let w = decided_within _ _ _ _ (sym (ap told_answer c.in-Refused.is) ∙ c.decide-decided.ensures.says) in
+    let w = decided_within _ _ _ _ (sym (ap told_answer c.in-Refused.is) ∙ c.decide.ensures.says) in
     omega arith
 
 pub returns-in-Accepted : goal.returns-in-Accepted
 returns-in-Accepted c =
-    decides c.args.finding.now _ _ c.finding_in.ensures c.decide-decided.ensures
+    decides c.args.finding.now _ _ c.finding_in.ensures c.decide.ensures
     (c.request_cells.ensures ∙ ap request_given (sym (ap told_answer c.in-Accepted.is))) (record { says = refl; left = refl })
 
 pub returns-in-Refused : goal.returns-in-Refused
 returns-in-Refused c =
-    decides c.args.finding.now _ _ c.finding_in.ensures c.decide-decided.ensures
+    decides c.args.finding.now _ _ c.finding_in.ensures c.decide.ensures
     (sym (ap (λ x. request_given (told_answer x)) c.in-Refused.is)) (record { says = c.refused-in-Refused.ensures; left = refl })
