@@ -100,8 +100,7 @@ fn main() -> ExitCode {
     for name in defined.iter().filter(|name| !exported.contains_key(*name)) {
         differs(format!("{name}: in the archive and not in the source"));
     }
-    for name in needed.iter().filter(|name| !["memcpy", "memmove", "memset", "memcmp", "bcmp"].contains(&name.as_str()))
-    {
+    for name in needed.iter().filter(|name| *name != "memcpy") {
         differs(format!("{name}: the archive needs it from outside"));
     }
     header.layouts().into_iter().for_each(&mut differs);

@@ -72,7 +72,9 @@ fn finding_cells(finding: Finding) -> [u16; 48]
     cells[0] = finding.limit;
     cells[1] = finding.place as u16;
     cells[2] = reason_of(finding.stop);
-    cells[FOUND..].copy_from_slice(&finding.cells);
+    for (i, &found) in finding.cells.iter().enumerate() {
+        cells[i + FOUND] = found;
+    }
     cells
 }
 
@@ -92,7 +94,9 @@ fn finding_in(cells: [u16; 48]) -> Finding
     ensures { told_finding result ≡ found_in cells }
 {
     let mut found = [0u16; 45];
-    found.copy_from_slice(&cells[FOUND..]);
+    for i in 0..found.len() {
+        found[i] = cells[i + FOUND];
+    }
     Finding {
         limit: cells[0],
         cells: found,

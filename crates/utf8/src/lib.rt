@@ -111,17 +111,22 @@ fn is_tail(b: u8) -> bool
     matches!(b, 0x80..=0xBF)
 }
 
-// The byte after a lead byte of this class: a continuation byte, narrowed after E0, ED, F0 and F4.
+// The byte after a lead byte of this class: a continuation byte, narrowed after E0, ED, F0 and F4. Whether it is narrowed is a test by itself, so that the loop over
+// sequences of one class makes it once.
 #[tactic(auto, unfolding(crate::specs::Class::class_second, crate::specs::Utf8::tail))]
 fn is_second(class: Class, b: u8) -> bool
     ensures { result ≡ class_second class b }
 {
-    match class {
-        E0 => matches!(b, 0xA0..=0xBF),
-        Ed => matches!(b, 0x80..=0x9F),
-        F0 => matches!(b, 0x90..=0xBF),
-        F4 => matches!(b, 0x80..=0x8F),
-        _ => is_tail(b),
+    if matches!(class, E0 | Ed | F0 | F4) {
+        let (first, last) = match class {
+            E0 => (0xA0, 0xBF),
+            Ed => (0x80, 0x9F),
+            F0 => (0x90, 0xBF),
+            _ => (0x80, 0x8F),
+        };
+        first <= b && b <= last
+    } else {
+        is_tail(b)
     }
 }
 

@@ -93,11 +93,6 @@ pub tried_put : {n r : ℕ} {b o o' : List ℕ} → n ≤ length o → Put n b o
 tried_put {n} {r} {b} {o} {o'} h p =
     record { within = omega (arith, p.count); room = λ _. p; none = λ g. absurd (let z : ⊥ = omega arith in z) }
 
--- the bytes themselves, copied to the front
-pub put_whole : {b b' o : List ℕ} → length b ≤ length o → b' ≡ b → Tried (length b) b o (length b) (b' ++ drop (length b) o)
-unfolding over
-put_whole {b} {b'} {o} h e = tried_put h (as_put b (ap (λ (l : List ℕ). l ++ drop (length b) o) e))
-
 -- a total writer in the rest of the output, of which there is enough
 pub try_then : {n m : ℕ} {a b o o₁ o₂ : List ℕ} {at r : ℕ} → Put n a o at o₁ → Tried m b (mid_of at (length o₁ - at) o₁) r o₂ → n + m ≤ length o
     → Put (n + m) (a ++ b) o (at + r) (put_mid at (length o₁ - at) o₁ o₂)

@@ -45,13 +45,14 @@ pub fn put_number(x: u16, out: &mut [u8]) -> usize
 }
 
 // All of `src` at the front of the output: how many bytes that is, or 0 and nothing written where there is no room.
-#[tactic(auto, using(crate::proofs::Over::put_whole), unfolding(crate::specs::Over::over))]
 pub fn put_bytes(src: &[u8], out: &mut [u8]) -> usize
     ensures { Tried (length src.now) src.now out.old result out.new }
 {
     if out.len() < src.len() {
         return 0;
     }
-    out[..src.len()].copy_from_slice(src);
+    for (i, &b) in src.iter().enumerate() {
+        out[i] = b;
+    }
     src.len()
 }
