@@ -224,7 +224,9 @@ fn is_utf8_in(classes: &[Class; 256], s: &[u8], at: usize) -> bool
     true
 }
 
-// The same by the table. A constant array is laid out in memory by the function that names it, at each of its calls: here once for all of the bytes.
+// The same by the table. A constant array is laid out in memory by the function that names it, at each of its calls: here once for all of the bytes. It is no part
+// of its callers' code, whose own loops need the registers.
+#[inline(never)]
 fn is_utf8_from(s: &[u8], at: usize) -> bool
     requires { at ≤ length s.now }
     ensures { result ≡ well_formed (drop at s.now) }
