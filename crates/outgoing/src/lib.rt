@@ -129,7 +129,8 @@ fn are_utf8(tray: &[u8], used: usize) -> bool
 
 // ---- what is written, where there is room
 
-// A record for each field of a tray that was walked.
+// A record for each field of a tray that was walked. It is no part of its callers' code, which would leave its loop too few registers.
+#[inline(never)]
 fn put_fields(word: u16, tray: &[u8], used: usize, out: &mut [u8]) -> usize
     requires { (tag : ℕ) × (l : List (List ℕ)) × (fields_in tag used tray.now ≡ fields l) × (4 * length l + bytes_in l ≤ length out.old) }
     ensures { (result ≤ length out.old) × ((tag : ℕ) (l : List (List ℕ)) → fields_in tag used tray.now ≡ fields l

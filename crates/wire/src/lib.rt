@@ -3,7 +3,7 @@
 
 ghost use Rattle.std.specs.Prelude.{◌≡◌, ◌≤◌, length};
 ghost use Rattle.wire.specs.Bytes.{byte_at, number_at, PartOf};
-ghost use Rattle.wire.specs.Over.{over, bytes_of, Tried};
+ghost use Rattle.wire.specs.Over.{bytes_of, Tried};
 
 // The byte at a place, and 0 past the end.
 pub fn byte_at(s: &[u8], at: usize) -> u8
